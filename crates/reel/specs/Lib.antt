@@ -1,0 +1,4 @@
+pub mod Layout
+pub mod Tests
+pub mod Records
+pub mod Headers

@@ -1,0 +1,35 @@
+//! A record of a checked reel.
+ghost use mathlib.Core.Path.{_≡_};
+ghost use lib.ListN.{length};
+ghost use Rattle.service.specs.Categories.{categoryIs};
+ghost use Rattle.reel.specs.Records.{recordIs, recordOf, OwnCase};
+use service::Category;
+
+/// What was recorded of one frame. The bytes of a packet are a part of the reel.
+#[derive(Clone, Copy)]
+pub enum Record<'a> {
+    /// Nothing was sent.
+    Blank,
+    /// The frame was lost.
+    Erasure,
+    /// A packet, with the category in which it arrived.
+    Packet { category: Category, bytes: &'a [u8] },
+}
+
+impl<'a> Record<'a> {
+    /// The record of this category with this packet, which a blank and an erasure lack.
+    pub(crate) fn new(category: Category, packet: &'a [u8]) -> Record<'a>
+        requires { ⌜ length (now packet) ≡ categoryIs category .bytes ⌝ }
+        ensures values { λ r. ⌜ recordIs r ≡ recordOf category (now (packet .entry)) ⌝ }
+        ensures own { λ r. ⌜ OwnCase r ⌝ }
+    {
+        match category {
+            Category::Blank => Record::Blank,
+            Category::Erasure => Record::Erasure,
+            _ => Record::Packet {
+                category,
+                bytes: packet,
+            },
+        }
+    }
+}

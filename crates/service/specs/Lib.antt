@@ -1,0 +1,4 @@
+pub mod Rates
+pub mod Categories
+pub mod Refusals
+pub mod Tests
