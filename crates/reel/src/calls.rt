@@ -19,7 +19,7 @@ const EMPTY: [u8; 16] = [0, 0, 0, 0, 16, 0, 0, 0, 16, 0, 0, 0, 16, 0, 0, 0];
 
 impl<'a> Reel<'a> {
     /// A reel with no records.
-    pub fn empty() -> Reel<'static> {
+    pub fn empty() -> Reel<'a> {
         Reel { bytes: &EMPTY }
     }
 

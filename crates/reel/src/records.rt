@@ -32,4 +32,25 @@ impl<'a> Record<'a> {
             },
         }
     }
+
+    /// The category in which the frame arrived.
+    pub fn category(self) -> Category
+        ensures { λ r. ⌜ r ≡ recordIs (self .entry) .category ⌝ }
+    {
+        match self {
+            Record::Blank => Category::Blank,
+            Record::Erasure => Category::Erasure,
+            Record::Packet { category, bytes: _ } => category,
+        }
+    }
+
+    /// The bytes of the packet; a blank and an erasure have none.
+    pub fn bytes(self) -> &'a [u8]
+        ensures { λ r. ⌜ now r ≡ recordIs (self .entry) .bytes ⌝ }
+    {
+        match self {
+            Record::Blank | Record::Erasure => &[],
+            Record::Packet { category: _, bytes } => bytes,
+        }
+    }
 }

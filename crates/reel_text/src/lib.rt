@@ -1,0 +1,147 @@
+//! The text of a reel: a line for each record, and a verdict.
+ghost use mathlib.Core.Path.{_≡_};
+ghost use mathlib.Core.Bool.{true};
+ghost use mathlib.Core.List.{_++_};
+ghost use Prim.Native.Nat.{_<_};
+ghost use Rattle.std.specs.Of.String.{string-bytes};
+ghost use Rattle.std.specs.Vec.{made};
+ghost use lib.Chars.{codes};
+ghost use Rattle.reel.specs.Layout.{count};
+ghost use Rattle.reel.specs.Records.{recordIs};
+ghost use Rattle.reel_text.specs.Text.{bytesText, categoryText, recordLines, hexByte, hexDigit, hexText, recordText, reelText, verdictText};
+use reel::Record;
+use reel::Reel;
+use service::Category;
+use service::Fault;
+use std::alloc::AllocError;
+use std::alloc::Global;
+
+/// The words for a category.
+fn category_name(category: Category) -> &'static str
+    ensures { λ r. ⌜ now r ≡ categoryText category ⌝ }
+{
+    match category {
+        Category::Blank => "blank",
+        Category::Eighth => "Rate 1/8",
+        Category::Quarter => "Rate 1/4",
+        Category::Half => "Rate 1/2",
+        Category::Full => "Rate 1",
+        Category::Suspect => "suspect Rate 1",
+        Category::Erasure => "erasure",
+    }
+}
+
+/// The hexadecimal digit of a number below 16.
+fn hex_digit(value: u8) -> char
+    requires { ⌜ value < 16 ⌝ }
+    ensures digit { λ r. ⌜ r ≡ hexDigit value ⌝ }
+    ensures ascii { λ r. ⌜ r < 128 ⌝ }
+{
+    if value < 10 {
+        char::from(b'0' + value)
+    } else {
+        char::from(b'a' + (value - 10))
+    }
+}
+
+/// Adds the two hexadecimal digits of a byte.
+fn push_hex(text: &mut String, byte: u8) -> Result<(), AllocError>
+    ensures { λ r. ⌜ made r (λ _. string-bytes (now (text .exit)) ≡ string-bytes (now (text .entry)) ++ hexByte byte) ⌝ }
+{
+    text.push(hex_digit(byte / 16))?;
+    text.push(hex_digit(byte % 16))?;
+    Ok(())
+}
+
+/// Two hexadecimal digits for each byte.
+fn hex(heap: Global, bytes: &[u8]) -> Result<String, AllocError>
+    ensures { λ r. ⌜ made r (λ s. string-bytes s ≡ hexText (now (bytes .entry))) ⌝ }
+{
+    let mut text = String::new(heap);
+    for byte in bytes {
+        push_hex(&mut text, *byte)?;
+    }
+    Ok(text)
+}
+
+/// The text of the verdict on a reel: how many records it has, or its fault.
+pub fn verdict_text(heap: Global, verdict: Result<usize, Fault>) -> Result<String, AllocError>
+    ensures { λ r. ⌜ made r (λ s. string-bytes s ≡ verdictText verdict) ⌝ }
+{
+    match verdict {
+        Ok(count) => format!(heap, "ok {count}"),
+        Err(fault) => {
+            let number = fault.number();
+            match fault.place() {
+                Some(place) => format!(heap, "refused {number} {place}"),
+                None => format!(heap, "refused {number}"),
+            }
+        }
+    }
+}
+
+/// The bytes of a packet in hexadecimal, or a hyphen for none.
+fn bytes_text(heap: Global, bytes: &[u8]) -> Result<String, AllocError>
+    ensures { λ r. ⌜ made r (λ s. string-bytes s ≡ bytesText (now (bytes .entry))) ⌝ }
+{
+    if bytes.is_empty() {
+        String::from_str(heap, "-")
+    } else {
+        hex(heap, bytes)
+    }
+}
+
+/// The text of a record under its number: what it is, and its bytes.
+pub fn record_text(heap: Global, number: usize, item: Record<'_>) -> Result<String, AllocError>
+    ensures { λ r. ⌜ made r (λ s. string-bytes s ≡ recordText number (recordIs (item .entry))) ⌝ }
+{
+    let name = category_name(item.category());
+    let bytes = bytes_text(heap, item.bytes())?;
+    format!(heap, "{number};{name};{bytes}")
+}
+
+/// Adds a text and a line feed.
+fn push_line(text: &mut String, line: &str) -> Result<(), AllocError>
+    ensures { λ r. ⌜ made r (λ _. string-bytes (now (text .exit)) ≡ string-bytes (now (text .entry)) ++ (now (line .entry) ++ codes "\n")) ⌝ }
+{
+    text.push_str(line)?;
+    text.push_str("\n")?;
+    Ok(())
+}
+
+/// Adds the line of a record.
+fn push_record(heap: Global, text: &mut String, number: usize, item: Record<'_>) -> Result<(), AllocError>
+    ensures { λ r. ⌜ made r (λ _. string-bytes (now (text .exit))
+        ≡ string-bytes (now (text .entry)) ++ (recordText number (recordIs (item .entry)) ++ codes "\n")) ⌝ }
+{
+    let line = record_text(heap, number, item)?;
+    push_line(text, line.as_str())
+}
+
+/// The lines of all records.
+fn record_lines(heap: Global, reel: &Reel<'_>) -> Result<String, AllocError>
+    ensures { λ r. ⌜ made r (λ s. string-bytes s
+        ≡ recordLines (now (now (reel .entry) .bytes)) (count (now (now (reel .entry) .bytes)))) ⌝ }
+{
+    let mut text = String::new(heap);
+    for k in 0..reel.len() {
+        if let Some(item) = reel.record(k) {
+            push_record(heap, &mut text, k + 1, item)?;
+        }
+    }
+    Ok(text)
+}
+
+/// The whole text of a reel: a line for each record and the verdict, or the refusal alone.
+pub fn listing(heap: Global, bytes: &[u8]) -> Result<String, AllocError>
+    ensures { λ r. ⌜ made r (λ s. string-bytes s ≡ reelText (now (bytes .entry))) ⌝ }
+{
+    let mut reel = Reel::empty();
+    let (mut text, verdict) = match reel.load(bytes) {
+        Ok(()) => (record_lines(heap, &reel)?, Ok(reel.len())),
+        Err(fault) => (String::new(heap), Err(fault)),
+    };
+    let line = verdict_text(heap, verdict)?;
+    push_line(&mut text, line.as_str())?;
+    Ok(text)
+}
