@@ -55,7 +55,12 @@ placeText (Some p) = codes " " ++ decimal p
 abbrev pub refusedText : Answer → List ℕ
 refusedText a = codes "refused " ++ (decimal (a .number) ++ placeText (a .place))
 
--- a lawful reel has so many records, or it has a fault
+-- the answer of a check: a reel with no fault is lawful
+abbrev pub answerText : Option Answer → List ℕ
+answerText None = codes "ok"
+answerText (Some a) = refusedText a
+
+-- the last line: a lawful reel has so many records, or the reel has a fault
 abbrev pub verdictText : Result ℕ Fault → List ℕ
 verdictText (Ok n) = codes "ok " ++ decimal n
 verdictText (Err e) = refusedText (faultIs e)

@@ -8,7 +8,9 @@ ghost use Rattle.std.specs.Vec.{made};
 ghost use lib.Chars.{codes};
 ghost use Rattle.reel.specs.Layout.{count};
 ghost use Rattle.reel.specs.Records.{recordIs};
-ghost use Rattle.reel_text.specs.Text.{bytesText, categoryText, recordLines, hexByte, hexDigit, hexText, recordText, reelText, verdictText};
+ghost use Rattle.reel.specs.Tests.{fault};
+ghost use Rattle.service.specs.Refusals.{faultIs};
+ghost use Rattle.reel_text.specs.Text.{answerText, refusedText, bytesText, categoryText, recordLines, hexByte, hexDigit, hexText, recordText, reelText, verdictText};
 use reel::Record;
 use reel::Reel;
 use service::Category;
@@ -64,19 +66,35 @@ fn hex(heap: Global, bytes: &[u8]) -> Result<String, AllocError>
     Ok(text)
 }
 
+/// The text of a fault: its number, and the record that it names.
+pub fn refused_text(heap: Global, fault: Fault) -> Result<String, AllocError>
+    ensures { λ r. ⌜ made r (λ s. string-bytes s ≡ refusedText (faultIs fault)) ⌝ }
+{
+    let number = fault.number();
+    match fault.place() {
+        Some(place) => format!(heap, "refused {number} {place}"),
+        None => format!(heap, "refused {number}"),
+    }
+}
+
 /// The text of the verdict on a reel: how many records it has, or its fault.
 pub fn verdict_text(heap: Global, verdict: Result<usize, Fault>) -> Result<String, AllocError>
     ensures { λ r. ⌜ made r (λ s. string-bytes s ≡ verdictText verdict) ⌝ }
 {
     match verdict {
         Ok(count) => format!(heap, "ok {count}"),
-        Err(fault) => {
-            let number = fault.number();
-            match fault.place() {
-                Some(place) => format!(heap, "refused {number} {place}"),
-                None => format!(heap, "refused {number}"),
-            }
-        }
+        Err(fault) => refused_text(heap, fault),
+    }
+}
+
+/// The text of what the check of a reel answers.
+pub fn answer_text(heap: Global, bytes: &[u8]) -> Result<String, AllocError>
+    ensures { λ r. ⌜ made r (λ s. string-bytes s ≡ answerText (fault (now (bytes .entry)))) ⌝ }
+{
+    let mut reel = Reel::empty();
+    match reel.load(bytes) {
+        Ok(()) => String::from_str(heap, "ok"),
+        Err(fault) => refused_text(heap, fault),
     }
 }
 

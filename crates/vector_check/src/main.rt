@@ -1,0 +1,112 @@
+//! Compares this program's answers with a folder of reference vectors, which a separate program computed.
+use std::alloc::Global;
+use std::env;
+use std::error::AnyError;
+use std::fs;
+use std::io;
+
+const HELP: &str = "\
+Usage: vector_check FOLDER
+
+Compares our answers with the reference vectors in a folder: names each difference, and
+prints for each file of cases how many were compared and how many differ. The status is 1 if
+any differs or a file cannot be read.";
+
+/// How many cases of a file were compared, and how many of them differ.
+#[derive(Clone, Copy)]
+struct Tally {
+    compared: usize,
+    differ: usize,
+}
+
+impl Tally {
+    fn new() -> Tally {
+        Tally {
+            compared: 0,
+            differ: 0,
+        }
+    }
+
+    fn count(&mut self, same: bool) {
+        self.compared = self.compared.saturating_add(1);
+        if !same {
+            self.differ = self.differ.saturating_add(1);
+        }
+    }
+}
+
+fn main(rt: LibcRuntime) -> Result<(), AnyError> {
+    let result = run(&rt);
+    if let Err(e) = &result {
+        let _ = eprintln!(rt, "vector_check: {e}");
+    }
+    result
+}
+
+fn run(rt: &LibcRuntime) -> Result<(), AnyError> {
+    let Some(folder) = env::args(rt)?.nth(1) else {
+        return Err("it takes a folder of vectors (--help says more)".into());
+    };
+    if folder.as_str() == "--help" {
+        println!(rt, "{HELP}")?;
+        return Ok(());
+    }
+    let reels = compare_reels(rt, folder.as_str())?;
+    let Tally { compared, differ } = reels;
+    println!(rt, "reel-check: {compared} compared, {differ} differ")?;
+    if differ > 0 {
+        return Err("some answers differ".into());
+    }
+    Ok(())
+}
+
+/// The answers of the check, by the cases of `reel-check.txt`: a reel's name, a space and the answer.
+fn compare_reels(rt: &LibcRuntime, folder: &str) -> Result<Tally, AnyError> {
+    let cases = read_cases(rt, folder, "reel-check.txt")?;
+    let mut tally = Tally::new();
+    for case in cases.as_str().lines() {
+        let Some((name, expected)) = case.split_once(' ') else {
+            return Err("reel-check.txt has a line without an answer".into());
+        };
+        let same = compare_reel(rt, folder, name, expected)?;
+        tally.count(same);
+    }
+    Ok(tally)
+}
+
+/// Whether the check of one reel answers as expected; a difference is named.
+fn compare_reel(rt: &LibcRuntime, folder: &str, name: &str, expected: &str) -> Result<bool, AnyError> {
+    let heap = rt.alloc();
+    let path = format!(heap, "{folder}/{name}.reel")?;
+    let Ok(bytes) = fs::read(rt, path.as_str()) else {
+        return Err(unreadable(heap, path.as_str()));
+    };
+    let answer = reel_text::answer_text(heap, &bytes)?;
+    let same = answer.as_str() == expected;
+    if !same {
+        name_difference(rt, name, expected, answer.as_str())?;
+    }
+    Ok(same)
+}
+
+fn name_difference(rt: &LibcRuntime, name: &str, expected: &str, answer: &str) -> io::Result<()> {
+    println!(rt, "reel-check {name}: expected '{expected}', answered '{answer}'")
+}
+
+/// The text of a file of cases.
+fn read_cases(rt: &LibcRuntime, folder: &str, file: &str) -> Result<String, AnyError> {
+    let heap = rt.alloc();
+    let path = format!(heap, "{folder}/{file}")?;
+    match fs::read_to_string(rt, path.as_str()) {
+        Ok(text) => Ok(text),
+        Err(_) => Err(unreadable(heap, path.as_str())),
+    }
+}
+
+/// The sentence for a file that cannot be read.
+fn unreadable(heap: Global, path: &str) -> AnyError {
+    match format!(heap, "{path} cannot be read") {
+        Ok(sentence) => sentence.into(),
+        Err(e) => e.into(),
+    }
+}
