@@ -16,7 +16,7 @@ use Rattle.reel.specs.Layout.{count, categoryAt, packetOf}
 
 pub record RecordValues : Type 0 where
   pub category : Category
-  pub bytes : List ℕ -- of the packet
+  pub bytes : List ℕ  -- of the packet
 
 abbrev pub recordOf : Category → List ℕ → RecordValues
 recordOf c bs = record { category = c; bytes = bs }

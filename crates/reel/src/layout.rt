@@ -5,6 +5,30 @@ ghost use lib.ListN.{length};
 ghost use Rattle.reel.specs.Headers.{HeaderOf};
 ghost use Rattle.reel.specs.Layout.{word};
 
+/// The bytes of the header.
+pub(crate) const HEADER: usize = 16;
+
+/// Where the four numbers of the header stand.
+const COUNT: usize = 0;
+
+const LIST: usize = 4;
+
+const AREA: usize = 8;
+
+const LENGTH: usize = 12;
+
+/// The bytes of a record.
+pub(crate) const RECORD: usize = 8;
+
+/// Where the parts of a record stand: the packet's place is first.
+pub(crate) const RECORD_CATEGORY: usize = 4;
+
+pub(crate) const RECORD_LENGTH: usize = 5;
+
+pub(crate) const RECORD_ZERO: usize = 6;
+
+pub(crate) const RECORD_LAST: usize = 7;
+
 /// The four numbers that a reel starts with.
 #[derive(Clone, Copy)]
 pub(crate) struct Header {
@@ -25,10 +49,10 @@ impl Header {
         ensures { λ r. ⌜ HeaderOf (now (bytes .entry)) r ⌝ }
     {
         Header {
-            count: word_at(bytes, 0),
-            list: word_at(bytes, 4),
-            area: word_at(bytes, 8),
-            length: word_at(bytes, 12),
+            count: word_at(bytes, COUNT),
+            list: word_at(bytes, LIST),
+            area: word_at(bytes, AREA),
+            length: word_at(bytes, LENGTH),
         }
     }
 }

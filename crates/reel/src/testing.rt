@@ -12,17 +12,17 @@ ghost use Rattle.reel.specs.Headers.{HeaderOf};
 ghost use Rattle.reel.specs.Layout.{count, part};
 ghost use Rattle.reel.specs.Records.{IsRecord};
 ghost use Rattle.reel.specs.Tests.{first, fault, headerTests, recordTests, pastEnd};
+use crate::layout::HEADER;
 use crate::layout::Header;
+use crate::layout::RECORD;
+use crate::layout::RECORD_CATEGORY;
+use crate::layout::RECORD_LAST;
+use crate::layout::RECORD_LENGTH;
+use crate::layout::RECORD_ZERO;
 use crate::layout::word_at;
 use crate::records::Record;
 use service::Category;
 use service::Fault;
-
-/// The bytes of the header.
-const HEADER: usize = 16;
-
-/// The bytes of a record.
-const RECORD: usize = 8;
 
 /// The most bytes that a reel may have.
 const LONGEST: usize = 65_536;
@@ -47,7 +47,10 @@ fn check_header(bytes: &[u8]) -> Result<Header, Fault>
     if MOST_RECORDS < header.count {
         return Err(Fault::RecordCount);
     }
-    if header.list < HEADER || header.area < header.list + RECORD * header.count || length < header.area {
+    if header.list < HEADER
+        || header.area < header.list + RECORD * header.count
+        || length < header.area
+    {
         return Err(Fault::Offsets);
     }
     Ok(header)
@@ -64,9 +67,9 @@ pub(crate) fn read_record(bytes: &[u8], header: Header, k: usize) -> Result<Reco
 {
     let at = header.list + RECORD * k;
     let number = k as u32 + 1;
-    let category = Category::from_number(bytes[at + 4], number)?;
-    category.check_length(bytes[at + 5] as usize, number)?;
-    if bytes[at + 6] != 0 || bytes[at + 7] != 0 {
+    let category = Category::from_number(bytes[at + RECORD_CATEGORY], number)?;
+    category.check_length(bytes[at + RECORD_LENGTH] as usize, number)?;
+    if bytes[at + RECORD_ZERO] != 0 || bytes[at + RECORD_LAST] != 0 {
         return Err(Fault::Reserved(number));
     }
     let start = header.area + word_at(bytes, at);
@@ -82,8 +85,8 @@ fn packet_at(bytes: &[u8], start: usize, category: Category) -> Option<&[u8]>
     requires { ⌜ start < 2 ^ 63 ⌝ }
     ensures { λ r. ⌜ BySome r (pastEnd (now (bytes .entry)) start category ≡ true)
         (λ packet. (pastEnd (now (bytes .entry)) start category ≡ false)
-            × (now packet ≡ part (now (bytes .entry)) start category)
-            × (length (now packet) ≡ categoryIs category .bytes)) ⌝ }
+        × (now packet ≡ part (now (bytes .entry)) start category)
+        × (length (now packet) ≡ categoryIs category .bytes)) ⌝ }
 {
     let size = category.packet_bytes();
     if size == 0 {

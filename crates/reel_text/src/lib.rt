@@ -128,7 +128,12 @@ fn push_line(text: &mut String, line: &str) -> Result<(), AllocError>
 }
 
 /// Adds the line of a record.
-fn push_record(heap: Global, text: &mut String, number: usize, item: Record<'_>) -> Result<(), AllocError>
+fn push_record(
+    heap: Global,
+    text: &mut String,
+    number: usize,
+    item: Record<'_>,
+) -> Result<(), AllocError>
     ensures { λ r. ⌜ made r (λ _. string-bytes (now (text .exit))
         ≡ string-bytes (now (text .entry)) ++ (recordText number (recordIs (item .entry)) ++ codes "\n")) ⌝ }
 {

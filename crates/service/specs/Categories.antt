@@ -12,9 +12,9 @@ use Rattle.service.specs.Rates.{rateIs}
 
 pub record CategoryValues : Type 0 where
   pub number : ℕ
-  pub rate : Option Rate -- of the packet, if it has one
-  pub bits : ℕ -- of the packet
-  pub bytes : ℕ -- that hold these bits
+  pub rate : Option Rate  -- of the packet, if it has one
+  pub bits : ℕ  -- of the packet
+  pub bytes : ℕ  -- that hold these bits
 
 abbrev pub packet : ℕ → Rate → CategoryValues
 packet n r = record { number = n; rate = Some r; bits = rateIs r .bits; bytes = rateIs r .bytes }

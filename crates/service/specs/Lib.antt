@@ -2,3 +2,4 @@ pub mod Rates
 pub mod Categories
 pub mod Refusals
 pub mod Tests
+pub mod Distinct

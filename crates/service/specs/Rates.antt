@@ -4,9 +4,9 @@ use Rattle.service.specs.declared.rates.Rate.{Rate}
 use Rattle.service.specs.declared.rates.Rate.the-variants.{Full, Half, Quarter, Eighth}
 
 pub record RateValues : Type 0 where
-  pub number : ℕ -- by which calls name the rate
-  pub bits : ℕ -- of a packet
-  pub bytes : ℕ -- that hold these bits
+  pub number : ℕ  -- by which calls name the rate
+  pub bits : ℕ  -- of a packet
+  pub bytes : ℕ  -- that hold these bits
 
 -- what each rate is
 abbrev pub rateIs : Rate → RateValues

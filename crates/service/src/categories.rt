@@ -108,9 +108,14 @@ impl Category {
         ensures { λ r. ⌜ Cases r (λ _. spareBitsSet self (now (packet .entry)) ≡ false)
             (λ e. (spareBitsSet self (now (packet .entry)) ≡ true) × (faultIs e ≡ refusedAt 9 place)) ⌝ }
     {
-        match self {
-            Category::Full | Category::Suspect if has_spare_bits(packet) => Err(Fault::SpareBits(place)),
-            _ => Ok(()),
+        let at_fault = match self {
+            Category::Full | Category::Suspect => has_spare_bits(packet),
+            _ => false,
+        };
+        if at_fault {
+            Err(Fault::SpareBits(place))
+        } else {
+            Ok(())
         }
     }
 }

@@ -75,7 +75,12 @@ fn compare_reels(rt: &LibcRuntime, folder: &str) -> Result<Tally, AnyError> {
 }
 
 /// Whether the check of one reel answers as expected; a difference is named.
-fn compare_reel(rt: &LibcRuntime, folder: &str, name: &str, expected: &str) -> Result<bool, AnyError> {
+fn compare_reel(
+    rt: &LibcRuntime,
+    folder: &str,
+    name: &str,
+    expected: &str,
+) -> Result<bool, AnyError> {
     let heap = rt.alloc();
     let path = format!(heap, "{folder}/{name}.reel")?;
     let Ok(bytes) = fs::read(rt, path.as_str()) else {
@@ -90,7 +95,10 @@ fn compare_reel(rt: &LibcRuntime, folder: &str, name: &str, expected: &str) -> R
 }
 
 fn name_difference(rt: &LibcRuntime, name: &str, expected: &str, answer: &str) -> io::Result<()> {
-    println!(rt, "reel-check {name}: expected '{expected}', answered '{answer}'")
+    println!(
+        rt,
+        "reel-check {name}: expected '{expected}', answered '{answer}'"
+    )
 }
 
 /// The text of a file of cases.

@@ -22,9 +22,9 @@ loop-k-again c =
     let bs = c .args .reel .now .bytes .now in
     let k = c .loop-k .k in
     elim (c .match-record .came) [
-      in-Some·in-Continue-push-record w ↦
+      | in-Some·in-Continue-push-record w ↦
           ap string-bytes (w .text-is) ∙ w .in-Continue-push-record .ensures tt
           ∙ ap (λ text. text ++ (recordText (k + 1) (recordIs (w .in-Some .item)) ++ codes "\n")) (c .loop-k .inv)
           ∙ sym (lines-more bs k (w .in-Some .item) (w .in-Some .ensures tt .1))
-    | in-rest w ↦ absurd (omega (arith, w .in-rest .ensures tt))
+      | in-rest w ↦ absurd (omega (arith, w .in-rest .ensures tt))
     ]

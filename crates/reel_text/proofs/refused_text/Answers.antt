@@ -18,5 +18,5 @@ pub returns-in-None : need.returns-in-None
 returns-in-None c =
     made-weaker (c .format-in-None .result) _ _
     (λ s e. e ∙ ap (λ digits. codes "refused " ++ digits) (sym (append-nil (decimal (c .number-number .result))))
-        ∙ ap₂ (λ n place. codes "refused " ++ (decimal n ++ placeText place)) (c .number-number .ensures) (sym (c .in-None .is) ∙ c .place .ensures))
+    ∙ ap₂ (λ n place. codes "refused " ++ (decimal n ++ placeText place)) (c .number-number .ensures) (sym (c .in-None .is) ∙ c .place .ensures))
     (c .format-in-None .ensures .made)

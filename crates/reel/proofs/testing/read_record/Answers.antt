@@ -15,7 +15,7 @@ returns c =
     let packet = c .in-Some .packet .now in
     let found = c .in-Some .ensures tt in
     let start = ap (λ area. area + c .word-at .result) (c .pre .head .area)
-        ∙ ap (λ n. areaAt bs + n) (c .word-at .ensures .value ∙ ap (λ list. word bs (list + 8 * k)) (c .pre .head .list)) in (
+    ∙ ap (λ n. areaAt bs + n) (c .word-at .ensures .value ∙ ap (λ list. word bs (list + 8 * k)) (c .pre .head .list)) in (
       search needs,
       is-record bs k category packet (c .new .result)
           (c .in-Continue-category .ensures tt .1 ∙ ap (λ list. getD bs (list + 8 * k + 4) 0) (c .pre .head .list))
