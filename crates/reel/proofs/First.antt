@@ -9,7 +9,7 @@ use Rattle.std.specs.declared.option.Option.the-variants.{Some, None}
 use Rattle.std.proofs.shelf.Tests.{cases-eq}
 use Rattle.service.specs.Refusals.{Answer}
 use Rattle.reel.specs.Layout.{count}
-use Rattle.reel.specs.Tests.{first, below, headerTests, recordTests, fault}
+use Rattle.reel.specs.Tests.{first, concatBelow, headerTests, recordTests, fault}
 
 -- where the front passes, the rest decides
 first-skip : (xs ys : List (Bool × Answer)) → first xs ≡ None → first (xs ++ ys) ≡ first ys
@@ -28,42 +28,42 @@ first-front [] ys h = refl
 first-front ((true, e) ∷ xs) ys h = h
 first-front ((false, e) ∷ xs) ys h = first-front xs ys h
 
-below-stop : (f : ℕ → List (Bool × Answer)) (m n : ℕ) (e : Answer) → first (below m f) ≡ Some e → m ≤ n → first (below n f) ≡ Some e
-below-stop f m zero e h le = let z : m ≡ 0 = omega arith in subst (λ i. first (below i f) ≡ Some e) z h
-below-stop f m (suc n) e h le =
-    ⊎-elim (λ q. subst (λ i. first (below i f) ≡ Some e) q h)
-    (λ q. first-stop (below n f) (f n) e (below-stop f m n e h (omega arith)))
+concat-stop : (f : ℕ → List (Bool × Answer)) (m n : ℕ) (e : Answer) → first (concatBelow m f) ≡ Some e → m ≤ n → first (concatBelow n f) ≡ Some e
+concat-stop f m zero e h le = let z : m ≡ 0 = omega arith in subst (λ i. first (concatBelow i f) ≡ Some e) z h
+concat-stop f m (suc n) e h le =
+    ⊎-elim (λ q. subst (λ i. first (concatBelow i f) ≡ Some e) q h)
+    (λ q. first-stop (concatBelow n f) (f n) e (concat-stop f m n e h (omega arith)))
     (cases-eq m (suc n))
 
-below-at : (f : ℕ → List (Bool × Answer)) (n k : ℕ) → first (below n f) ≡ None → k < n → first (f k) ≡ None
-below-at f zero k h lt = absurd (omega arith)
-below-at f (suc n) k h lt =
-    ⊎-elim (λ q. subst (λ i. first (f i) ≡ None) (sym q) (sym (first-skip (below n f) (f n) (first-front (below n f) (f n) h)) ∙ h))
-    (λ q. below-at f n k (first-front (below n f) (f n) h) (omega arith))
+concat-at : (f : ℕ → List (Bool × Answer)) (n k : ℕ) → first (concatBelow n f) ≡ None → k < n → first (f k) ≡ None
+concat-at f zero k h lt = absurd (omega arith)
+concat-at f (suc n) k h lt =
+    ⊎-elim (λ q. subst (λ i. first (f i) ≡ None) (sym q) (sym (first-skip (concatBelow n f) (f n) (first-front (concatBelow n f) (f n) h)) ∙ h))
+    (λ q. concat-at f n k (first-front (concatBelow n f) (f n) h) (omega arith))
     (cases-eq k n)
 
 -- a header that fails decides
 pub fault-by-header : (bs : List ℕ) (e : Answer) → first (headerTests bs) ≡ Some e → fault bs ≡ Some e
-fault-by-header bs e h = first-stop (headerTests bs) (below (count bs) (recordTests bs)) e h
+fault-by-header bs e h = first-stop (headerTests bs) (concatBelow (count bs) (recordTests bs)) e h
 
 -- where the header passes, the records decide
-pub fault-by-records : (bs : List ℕ) → first (headerTests bs) ≡ None → fault bs ≡ first (below (count bs) (recordTests bs))
-fault-by-records bs h = first-skip (headerTests bs) (below (count bs) (recordTests bs)) h
+pub fault-by-records : (bs : List ℕ) → first (headerTests bs) ≡ None → fault bs ≡ first (concatBelow (count bs) (recordTests bs))
+fault-by-records bs h = first-skip (headerTests bs) (concatBelow (count bs) (recordTests bs)) h
 
 -- the first record that fails decides
-pub fault-at : (bs : List ℕ) (k : ℕ) (e : Answer) → first (headerTests bs) ≡ None → first (below k (recordTests bs)) ≡ None
+pub fault-at : (bs : List ℕ) (k : ℕ) (e : Answer) → first (headerTests bs) ≡ None → first (concatBelow k (recordTests bs)) ≡ None
     → k < count bs → first (recordTests bs k) ≡ Some e → fault bs ≡ Some e
 fault-at bs k e head before lt here =
     fault-by-records bs head
-    ∙ below-stop (recordTests bs) (suc k) (count bs) e (first-skip (below k (recordTests bs)) (recordTests bs k) before ∙ here) (omega arith)
+    ∙ concat-stop (recordTests bs) (suc k) (count bs) e (first-skip (concatBelow k (recordTests bs)) (recordTests bs k) before ∙ here) (omega arith)
 
 -- one more record passes
-pub below-more : (bs : List ℕ) (k : ℕ) → first (below k (recordTests bs)) ≡ None → first (recordTests bs k) ≡ None → first (below (suc k) (recordTests bs)) ≡ None
-below-more bs k before here = first-skip (below k (recordTests bs)) (recordTests bs k) before ∙ here
+pub concat-more : (bs : List ℕ) (k : ℕ) → first (concatBelow k (recordTests bs)) ≡ None → first (recordTests bs k) ≡ None → first (concatBelow (suc k) (recordTests bs)) ≡ None
+concat-more bs k before here = first-skip (concatBelow k (recordTests bs)) (recordTests bs k) before ∙ here
 
 -- the header of a lawful reel passes, and so does each record
 pub header-passes : (bs : List ℕ) → fault bs ≡ None → first (headerTests bs) ≡ None
-header-passes bs h = first-front (headerTests bs) (below (count bs) (recordTests bs)) h
+header-passes bs h = first-front (headerTests bs) (concatBelow (count bs) (recordTests bs)) h
 
 pub record-passes : (bs : List ℕ) (k : ℕ) → fault bs ≡ None → k < count bs → first (recordTests bs k) ≡ None
-record-passes bs k h lt = below-at (recordTests bs) (count bs) k (sym (fault-by-records bs (header-passes bs h)) ∙ h) lt
+record-passes bs k h lt = concat-at (recordTests bs) (count bs) k (sym (fault-by-records bs (header-passes bs h)) ∙ h) lt

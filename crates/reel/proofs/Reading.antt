@@ -20,20 +20,20 @@ use Rattle.service.specs.Tests.{spareBitsSet}
 use Rattle.service.proofs.Numbers.{category-of-number}
 use Rattle.reel.specs.declared.records.Record.{Record}
 use Rattle.reel.specs.Layout.{count, categoryByte, packetAt, part}
-use Rattle.reel.specs.Records.{RecordValues, recordIs, recordOf, OwnCase, IsRecord, RecordAt}
+use Rattle.reel.specs.Records.{RecordValues, recordIs, recordOf, ProperCase, IsRecord, RecordAt}
 use Rattle.reel.specs.Tests.{first, fault, recordTests}
 use Rattle.reel.proofs.First.{record-passes}
 
 pub is-record : (bs : List ℕ) (k : ℕ) (c : Category) (packet : List ℕ) (r : Record) → categoryIs c .number ≡ categoryByte bs k
     → packet ≡ part bs (packetAt bs k) c → length packet ≡ categoryIs c .bytes → spareBitsSet c packet ≡ false
-    → recordIs r ≡ recordOf c packet → OwnCase r → IsRecord bs k r
-is-record bs k c packet r number place whole spare values own =
+    → recordIs r ≡ recordOf c packet → ProperCase r → IsRecord bs k r
+is-record bs k c packet r number place whole spare values proper =
     let same = ap categoryOf (sym number) ∙ category-of-number c in
     let Whole : RecordValues → Type 0 = λ v. length (v .bytes) ≡ categoryIs (v .category) .bytes in
     let Spare : RecordValues → Type 0 = λ v. spareBitsSet (v .category) (v .bytes) ≡ false in
     record {
       values = values ∙ ap (recordOf c) place ∙ ap (λ d. recordOf d (part bs (packetAt bs k) d)) (sym same);
-      own = own;
+      proper = proper;
       whole = subst Whole (sym values) whole;
       spare = subst Spare (sym values) spare;
     }

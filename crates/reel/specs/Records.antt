@@ -16,10 +16,11 @@ use Rattle.reel.specs.Layout.{count, categoryAt, packetOf}
 
 pub record RecordValues : Type 0 where
   pub category : Category
+  pub number : ℕ  -- of the category
   pub bytes : List ℕ  -- of the packet
 
 abbrev pub recordOf : Category → List ℕ → RecordValues
-recordOf c bs = record { category = c; bytes = bs }
+recordOf c bs = record { category = c; number = categoryIs c .number; bytes = bs }
 
 -- what each record is
 abbrev pub recordIs : Record → RecordValues
@@ -27,16 +28,16 @@ recordIs Blank = recordOf BlankCategory []
 recordIs Erasure = recordOf ErasureCategory []
 recordIs (Packet c part) = recordOf c (part .now)
 
--- a packet has bytes, so a blank and an erasure are cases of their own
-abbrev pub OwnCase : Record → Type 0
-OwnCase Blank = Unit {0}
-OwnCase Erasure = Unit {0}
-OwnCase (Packet c part) = 0 < categoryIs c .bytes
+-- the packet case is for a category that has a packet
+abbrev pub ProperCase : Record → Type 0
+ProperCase Blank = Unit {0}
+ProperCase Erasure = Unit {0}
+ProperCase (Packet c part) = 0 < categoryIs c .bytes
 
 -- r is record k of these bytes
 pub record IsRecord (bs : List ℕ) (k : ℕ) (r : Record) : Type 0 where
   pub values : recordIs r ≡ recordOf (categoryAt bs k) (packetOf bs k)
-  pub own : OwnCase r
+  pub proper : ProperCase r
   pub whole : length (recordIs r .bytes) ≡ categoryIs (recordIs r .category) .bytes
   pub spare : spareBitsSet (recordIs r .category) (recordIs r .bytes) ≡ false
 

@@ -35,13 +35,13 @@ recordTests bs k =
     ∷ (spareBitsSet (categoryAt bs k) (packetOf bs k), refusedAt 9 (k + 1))
     ∷ []
 
--- f 0, f 1 and so on, below n
-abbrev pub below : {X : Type 0} → ℕ → (ℕ → List X) → List X
-below zero f = []
-below (suc n) f = below n f ++ f n
+-- f 0, f 1 and so on up to f (n - 1), one after another
+abbrev pub concatBelow : {X : Type 0} → ℕ → (ℕ → List X) → List X
+concatBelow zero f = []
+concatBelow (suc n) f = concatBelow n f ++ f n
 
 abbrev pub tests : List ℕ → List (Bool × Answer)
-tests bs = headerTests bs ++ below (count bs) (recordTests bs)
+tests bs = headerTests bs ++ concatBelow (count bs) (recordTests bs)
 
 abbrev pub first : List (Bool × Answer) → Option Answer
 first [] = None

@@ -5,29 +5,35 @@ ghost use lib.ListN.{length};
 ghost use Rattle.reel.specs.Headers.{HeaderOf};
 ghost use Rattle.reel.specs.Layout.{word};
 
-/// The bytes of the header.
-pub(crate) const HEADER: usize = 16;
+/// How many bytes the header has.
+pub(crate) const HEADER_BYTES: usize = 16;
 
-/// Where the four numbers of the header stand.
-const COUNT: usize = 0;
+/// Where the number of records stands.
+const COUNT_AT: usize = 0;
 
-const LIST: usize = 4;
+/// Where the offset of the record list stands.
+const LIST_AT: usize = 4;
 
-const AREA: usize = 8;
+/// Where the offset of the packet area stands.
+const AREA_AT: usize = 8;
 
-const LENGTH: usize = 12;
+/// Where the reel's length stands.
+const LENGTH_AT: usize = 12;
 
-/// The bytes of a record.
-pub(crate) const RECORD: usize = 8;
+/// How many bytes a record has. The packet's place is at its start.
+pub(crate) const RECORD_BYTES: usize = 8;
 
-/// Where the parts of a record stand: the packet's place is first.
-pub(crate) const RECORD_CATEGORY: usize = 4;
+/// Where the category stands in a record.
+pub(crate) const RECORD_CATEGORY_AT: usize = 4;
 
-pub(crate) const RECORD_LENGTH: usize = 5;
+/// Where the packet's length stands in a record.
+pub(crate) const RECORD_LENGTH_AT: usize = 5;
 
-pub(crate) const RECORD_ZERO: usize = 6;
+/// Where the first of the two zero bytes stands in a record.
+pub(crate) const RECORD_ZERO_AT: usize = 6;
 
-pub(crate) const RECORD_LAST: usize = 7;
+/// Where the last byte stands in a record.
+pub(crate) const RECORD_LAST_AT: usize = 7;
 
 /// The four numbers that a reel starts with.
 #[derive(Clone, Copy)]
@@ -49,10 +55,10 @@ impl Header {
         ensures { λ r. ⌜ HeaderOf (now (bytes .entry)) r ⌝ }
     {
         Header {
-            count: word_at(bytes, COUNT),
-            list: word_at(bytes, LIST),
-            area: word_at(bytes, AREA),
-            length: word_at(bytes, LENGTH),
+            count: word_at(bytes, COUNT_AT),
+            list: word_at(bytes, LIST_AT),
+            area: word_at(bytes, AREA_AT),
+            length: word_at(bytes, LENGTH_AT),
         }
     }
 }

@@ -2,15 +2,15 @@
 ghost use mathlib.Core.Path.{_≡_};
 ghost use lib.ListN.{length};
 ghost use Rattle.service.specs.Categories.{categoryIs};
-ghost use Rattle.reel.specs.Records.{recordIs, recordOf, OwnCase};
+ghost use Rattle.reel.specs.Records.{recordIs, recordOf, ProperCase};
 use service::Category;
 
 /// What was recorded of one frame. The bytes of a packet are a part of the reel.
 #[derive(Clone, Copy)]
 pub enum Record<'a> {
-    /// Nothing was sent.
+    /// A frame in which no voice packet was sent.
     Blank,
-    /// The frame was lost.
+    /// A frame of insufficient quality.
     Erasure,
     /// A packet, with the category in which it arrived.
     Packet { category: Category, bytes: &'a [u8] },
@@ -21,7 +21,7 @@ impl<'a> Record<'a> {
     pub(crate) fn new(category: Category, packet: &'a [u8]) -> Record<'a>
         requires { ⌜ length (now packet) ≡ categoryIs category .bytes ⌝ }
         ensures values { λ r. ⌜ recordIs r ≡ recordOf category (now (packet .entry)) ⌝ }
-        ensures own { λ r. ⌜ OwnCase r ⌝ }
+        ensures proper { λ r. ⌜ ProperCase r ⌝ }
     {
         match category {
             Category::Blank => Record::Blank,

@@ -8,7 +8,7 @@ use std::io;
 use std::io::Read;
 
 /// One byte more than the longest reel: an input that fills it is refused, and not read to its end.
-const MOST_INPUT: usize = 65_537;
+const MOST_INPUT: usize = reel::MOST_BYTES + 1;
 
 const HELP: &str = "\
 Usage: reel_check < REEL
@@ -21,7 +21,8 @@ An unlawful reel prints one line alone, by the first test that it fails,
   refused NUMBER
 or, for a fault of a record,
   refused NUMBER RECORD
-Either way the status is 0; it is 1 if the input cannot be read.";
+Either way the status is 0. It is 1, with a sentence on standard error, if the input cannot
+be read, the output cannot be written, or memory runs out.";
 
 fn main(rt: LibcRuntime) -> Result<(), AnyError> {
     let result = run(&rt);
@@ -40,8 +41,9 @@ fn run(rt: &LibcRuntime) -> Result<(), AnyError> {
         return Err("it takes no arguments but --help, and reads the reel from standard input".into());
     }
     let mut input = vec![in rt.alloc(); 0u8; MOST_INPUT]?;
-    let Ok(length) = read_reel(rt, &mut input) else {
-        return Err("standard input cannot be read".into());
+    let length = match read_reel(rt, &mut input) {
+        Ok(length) => length,
+        Err(e) => return Err(format!(rt.alloc(), "standard input cannot be read: {e}")?.into()),
     };
     let text = reel_text::listing(rt.alloc(), &input[0..length])?;
     rt.print(text)?;

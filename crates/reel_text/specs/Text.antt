@@ -47,13 +47,13 @@ bytesText (b ∷ bs) = hexText (b ∷ bs)
 abbrev pub recordText : ℕ → RecordValues → List ℕ
 recordText n v = decimal n ++ (codes ";" ++ (categoryText (v .category) ++ (codes ";" ++ bytesText (v .bytes))))
 
--- a place after a space, if there is one
-abbrev pub placeText : Option ℕ → List ℕ
-placeText None = []
-placeText (Some p) = codes " " ++ decimal p
+-- a number, and a place after a space if there is one
+abbrev pub refusedBy : ℕ → Option ℕ → List ℕ
+refusedBy n None = codes "refused " ++ decimal n
+refusedBy n (Some p) = codes "refused " ++ (decimal n ++ (codes " " ++ decimal p))
 
 abbrev pub refusedText : Answer → List ℕ
-refusedText a = codes "refused " ++ (decimal (a .number) ++ placeText (a .place))
+refusedText a = refusedBy (a .number) (a .place)
 
 -- the answer of a check: a reel with no fault is lawful
 abbrev pub answerText : Option Answer → List ℕ
@@ -61,8 +61,11 @@ answerText None = codes "ok"
 answerText (Some a) = refusedText a
 
 -- the last line: a lawful reel has so many records, or the reel has a fault
+abbrev pub okText : ℕ → List ℕ
+okText n = codes "ok " ++ decimal n
+
 abbrev pub verdictText : Result ℕ Fault → List ℕ
-verdictText (Ok n) = codes "ok " ++ decimal n
+verdictText (Ok n) = okText n
 verdictText (Err e) = refusedText (faultIs e)
 
 -- the lines of the first n records
@@ -72,7 +75,7 @@ recordLines bs (suc k) = recordLines bs k ++ (recordText (suc k) (recordOf (cate
 
 -- the whole text: an unlawful reel has one line
 abbrev pub textBy : List ℕ → Option Answer → List ℕ
-textBy bs None = recordLines bs (count bs) ++ (codes "ok " ++ (decimal (count bs) ++ codes "\n"))
+textBy bs None = recordLines bs (count bs) ++ (okText (count bs) ++ codes "\n")
 textBy bs (Some a) = refusedText a ++ codes "\n"
 
 abbrev pub reelText : List ℕ → List ℕ

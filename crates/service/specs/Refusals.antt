@@ -3,9 +3,9 @@ use Prim.Native.Nat.{ℕ}
 use Rattle.std.specs.declared.option.Option.{Option}
 use Rattle.std.specs.declared.option.Option.the-variants.{Some, None}
 use Rattle.service.specs.declared.refusals.Fault.{Fault}
-use Rattle.service.specs.declared.refusals.Fault.the-variants.{Size, LengthField, RecordCount, Offsets, Category, Length, Reserved, PastEnd, SpareBits}
+use Rattle.service.specs.declared.refusals.Fault.the-variants.{Size, LengthField, RecordCount, Offsets, UnknownCategory, Length, Reserved, PastEnd, SpareBits}
 use Rattle.service.specs.declared.refusals.Refusal.{Refusal}
-use Rattle.service.specs.declared.refusals.Refusal.the-variants.{Faulty, Frequency, Pitch, Codebook, Draws, LineFull, NoArrival, ShortBuffer, Codes, Reel}
+use Rattle.service.specs.declared.refusals.Refusal.the-variants.{Faulty, Frequency, Pitch, Codebook, Draws, LineFull, NoArrival, ShortBuffer, Codes, UnlawfulReel}
 
 -- a place is a record for 5 to 9, an LSP for 10 and a subframe for 11 and 12
 pub record Answer : Type 0 where
@@ -24,7 +24,7 @@ faultIs Size = refused 1
 faultIs LengthField = refused 2
 faultIs RecordCount = refused 3
 faultIs Offsets = refused 4
-faultIs (Category k) = refusedAt 5 k
+faultIs (UnknownCategory k) = refusedAt 5 k
 faultIs (Length k) = refusedAt 6 k
 faultIs (Reserved k) = refusedAt 7 k
 faultIs (PastEnd k) = refusedAt 8 k
@@ -41,4 +41,4 @@ refusalIs LineFull = refused 14
 refusalIs NoArrival = refused 15
 refusalIs ShortBuffer = refused 16
 refusalIs Codes = refused 17
-refusalIs Reel = refused 18
+refusalIs UnlawfulReel = refused 18

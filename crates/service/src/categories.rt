@@ -12,7 +12,7 @@ use crate::refusals::Fault;
 /// How a frame arrived.
 #[derive(Clone, Copy, PartialEq, Eq, Debug)]
 pub enum Category {
-    /// 0: nothing was sent.
+    /// 0: a blank, a frame in which the sender sent no voice packet.
     Blank,
     /// 1: a packet at Rate 1/8.
     Eighth,
@@ -22,20 +22,20 @@ pub enum Category {
     Half,
     /// 4: a packet at Rate 1.
     Full,
-    /// 5: a packet at Rate 1 with probable bit errors.
+    /// 5: suspect, a packet at Rate 1 with probable bit errors.
     Suspect,
-    /// 6: a frame that was lost.
+    /// 6: an erasure, a frame of insufficient quality.
     Erasure,
 }
 
-/// The place of a Rate 1 packet's last byte.
+/// The index of a Rate 1 packet's last byte: it has 22.
 const LAST_BYTE: usize = 21;
 
-/// The five bits that end a Rate 1 packet and carry nothing.
-const SPARE_BITS: u8 = 0b0001_1111;
+/// The values of that byte's lowest five bits, which carry nothing: 22 bytes hold 176 bits, and a packet has 171.
+const SPARE_VALUES: u8 = 1 << 5;
 
 impl Category {
-    /// The category of this number, or fault 5 naming this place.
+    /// The category of this number, or fault 5 at this place.
     pub fn from_number(number: u8, place: u32) -> Result<Category, Fault>
         ensures { λ r. ⌜ Cases r
             (λ category. (unknownCategory number ≡ false) × (categoryIs category .number ≡ number))
@@ -49,7 +49,7 @@ impl Category {
             4 => Ok(Category::Full),
             5 => Ok(Category::Suspect),
             6 => Ok(Category::Erasure),
-            _ => Err(Fault::Category(place)),
+            _ => Err(Fault::UnknownCategory(place)),
         }
     }
 
@@ -91,7 +91,7 @@ impl Category {
         }
     }
 
-    /// Whether this is the length of the category's packet, or else fault 6 naming this place.
+    /// Passes the length of the category's packet, and answers fault 6 at this place for any other.
     pub fn check_length(self, length: usize, place: u32) -> Result<(), Fault>
         ensures { λ r. ⌜ Cases r (λ _. wrongLength self length ≡ false)
             (λ e. (wrongLength self length ≡ true) × (faultIs e ≡ refusedAt 6 place)) ⌝ }
@@ -103,13 +103,14 @@ impl Category {
         }
     }
 
-    /// Whether the spare bits at the packet's end are zero, or else fault 9 naming this place.
+    /// Answers fault 9 at this place if a spare bit of the category's packet is set. Bytes past the packet's
+    /// length are not looked at, and one that is missing counts as zero.
     pub fn check_spare_bits(self, packet: &[u8], place: u32) -> Result<(), Fault>
         ensures { λ r. ⌜ Cases r (λ _. spareBitsSet self (now (packet .entry)) ≡ false)
             (λ e. (spareBitsSet self (now (packet .entry)) ≡ true) × (faultIs e ≡ refusedAt 9 place)) ⌝ }
     {
         let at_fault = match self {
-            Category::Full | Category::Suspect => has_spare_bits(packet),
+            Category::Full | Category::Suspect => spare_bits_set(packet),
             _ => false,
         };
         if at_fault {
@@ -120,11 +121,14 @@ impl Category {
     }
 }
 
-/// Whether one of the spare bits of a Rate 1 packet is set.
-fn has_spare_bits(packet: &[u8]) -> bool
+/// Whether a spare bit of a Rate 1 packet is set. A byte that is missing counts as zero.
+fn spare_bits_set(packet: &[u8]) -> bool
     ensures { λ r. ⌜ r ≡ spareBitsSet Category.Full (now (packet .entry)) ⌝ }
 {
-    LAST_BYTE < packet.len() && packet[LAST_BYTE] & SPARE_BITS != 0
+    if packet.len() <= LAST_BYTE {
+        return false;
+    }
+    packet[LAST_BYTE] % SPARE_VALUES != 0
 }
 
 pub impl From<Rate> for Category as CategoryFromRate {

@@ -1,5 +1,5 @@
-//! The words that every crate shares: the rates, the categories, and the refusals by number.
-ghost use Rattle.service.specs.Distinct.{NamesApart};
+//! The types that every crate shares: the rates, the categories, and the refusals by number.
+ghost use Rattle.service.specs.Distinct.{DistinctNumbers};
 
 mod categories;
 mod rates;
@@ -10,7 +10,8 @@ pub use rates::Rate;
 pub use refusals::Fault;
 pub use refusals::Refusal;
 
-/// Carries a theorem: no two rates or categories share a number, and no two refusals a number and a place.
-pub fn names_apart()
-    ensures { λ _. ⌜ NamesApart ⌝ }
+/// Carries a theorem: the rates, the categories and the refusals have numbers of their own, and the
+/// refusals have exactly those from 1 to 18.
+pub fn distinct_numbers()
+    ensures { λ _. ⌜ DistinctNumbers ⌝ }
 {}

@@ -14,7 +14,7 @@ pub enum Fault {
     /// 4: the reel's parts overlap or pass its end.
     Offsets,
     /// 5: the category of this record is above 6.
-    Category(u32),
+    UnknownCategory(u32),
     /// 6: the length of this record is not its category's.
     Length(u32),
     /// 7: the last two bytes of this record are not zero.
@@ -47,7 +47,7 @@ pub enum Refusal {
     /// 17: no such rate, a code too wide, or a code that the rate lacks.
     Codes,
     /// 18: the reel of a page is unlawful.
-    Reel,
+    UnlawfulReel,
 }
 
 impl Fault {
@@ -60,7 +60,7 @@ impl Fault {
             Fault::LengthField => 2,
             Fault::RecordCount => 3,
             Fault::Offsets => 4,
-            Fault::Category(_) => 5,
+            Fault::UnknownCategory(_) => 5,
             Fault::Length(_) => 6,
             Fault::Reserved(_) => 7,
             Fault::PastEnd(_) => 8,
@@ -73,7 +73,7 @@ impl Fault {
         ensures { λ r. ⌜ r ≡ faultIs self .place ⌝ }
     {
         match self {
-            Fault::Category(record)
+            Fault::UnknownCategory(record)
             | Fault::Length(record)
             | Fault::Reserved(record)
             | Fault::PastEnd(record)
@@ -98,7 +98,7 @@ impl Refusal {
             Refusal::NoArrival => 15,
             Refusal::ShortBuffer => 16,
             Refusal::Codes => 17,
-            Refusal::Reel => 18,
+            Refusal::UnlawfulReel => 18,
         }
     }
 
@@ -118,7 +118,7 @@ impl Refusal {
 pub impl From<Fault> for Refusal as RefusalFromFault {
     ghost converts = { λ fault refusal. refusalIs refusal ≡ faultIs fault };
 
-    fn from(fault: Fault) -> Refusal {
-        Refusal::Faulty(fault)
+    fn from(cause: Fault) -> Refusal {
+        Refusal::Faulty(cause)
     }
 }

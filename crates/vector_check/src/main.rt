@@ -1,4 +1,6 @@
 //! Compares this program's answers with a folder of reference vectors, which a separate program computed.
+ghost use mathlib.Core.Path.{_≡_};
+ghost use Rattle.vector_check.specs.Tallies.{Counted};
 use std::alloc::Global;
 use std::env;
 use std::error::AnyError;
@@ -20,14 +22,19 @@ struct Tally {
 }
 
 impl Tally {
-    fn new() -> Tally {
+    fn new() -> Tally
+        ensures { λ r. ⌜ (r .compared ≡ 0) × (r .differ ≡ 0) ⌝ }
+    {
         Tally {
             compared: 0,
             differ: 0,
         }
     }
 
-    fn count(&mut self, same: bool) {
+    /// Counts one more case. Counts that are full stay full.
+    fn count(&mut self, same: bool)
+        ensures { λ _. ⌜ Counted (now (self .entry)) same (now (self .exit)) ⌝ }
+    {
         self.compared = self.compared.saturating_add(1);
         if !same {
             self.differ = self.differ.saturating_add(1);
@@ -44,8 +51,9 @@ fn main(rt: LibcRuntime) -> Result<(), AnyError> {
 }
 
 fn run(rt: &LibcRuntime) -> Result<(), AnyError> {
-    let Some(folder) = env::args(rt)?.nth(1) else {
-        return Err("it takes a folder of vectors (--help says more)".into());
+    let mut words = env::args(rt)?.skip(1);
+    let (Some(folder), None) = (words.next(), words.next()) else {
+        return Err("it takes one folder of vectors (--help says more)".into());
     };
     if folder.as_str() == "--help" {
         println!(rt, "{HELP}")?;
@@ -54,6 +62,9 @@ fn run(rt: &LibcRuntime) -> Result<(), AnyError> {
     let reels = compare_reels(rt, folder.as_str())?;
     let Tally { compared, differ } = reels;
     println!(rt, "reel-check: {compared} compared, {differ} differ")?;
+    if compared == 0 {
+        return Err("there was nothing to compare".into());
+    }
     if differ > 0 {
         return Err("some answers differ".into());
     }
@@ -83,8 +94,9 @@ fn compare_reel(
 ) -> Result<bool, AnyError> {
     let heap = rt.alloc();
     let path = format!(heap, "{folder}/{name}.reel")?;
-    let Ok(bytes) = fs::read(rt, path.as_str()) else {
-        return Err(unreadable(heap, path.as_str()));
+    let bytes = match fs::read(rt, path.as_str()) {
+        Ok(bytes) => bytes,
+        Err(e) => return Err(unreadable(heap, path.as_str(), e)),
     };
     let answer = reel_text::answer_text(heap, &bytes)?;
     let same = answer.as_str() == expected;
@@ -107,13 +119,13 @@ fn read_cases(rt: &LibcRuntime, folder: &str, file: &str) -> Result<String, AnyE
     let path = format!(heap, "{folder}/{file}")?;
     match fs::read_to_string(rt, path.as_str()) {
         Ok(text) => Ok(text),
-        Err(_) => Err(unreadable(heap, path.as_str())),
+        Err(e) => Err(unreadable(heap, path.as_str(), e)),
     }
 }
 
 /// The sentence for a file that cannot be read.
-fn unreadable(heap: Global, path: &str) -> AnyError {
-    match format!(heap, "{path} cannot be read") {
+fn unreadable(heap: Global, path: &str, cause: io::Error) -> AnyError {
+    match format!(heap, "{path} cannot be read: {cause}") {
         Ok(sentence) => sentence.into(),
         Err(e) => e.into(),
     }

@@ -8,9 +8,9 @@ use Rattle.reel.proofs.records.Record.new.Needs as need
 pub returns-in-Blank : need.returns-in-Blank
 returns-in-Blank c =
     let empty = nil-from-length (c .args .packet .now) (c .pre ∙ ap (λ d. categoryIs d .bytes) (c .in-Blank .is)) in
-    record { values = cc; own = tt }
+    record { values = cc; proper = tt }
 
 pub returns-in-Erasure : need.returns-in-Erasure
 returns-in-Erasure c =
     let empty = nil-from-length (c .args .packet .now) (c .pre ∙ ap (λ d. categoryIs d .bytes) (c .in-Erasure .is)) in
-    record { values = cc; own = tt }
+    record { values = cc; proper = tt }

@@ -5,7 +5,7 @@ use lib.ListN.{getD}
 use borrow.Author.Needs.{needs}
 use Rattle.reel.specs.Layout.{areaAt, word, part}
 use Rattle.reel.proofs.Reading.{is-record}
-use Rattle.reel.proofs.testing.read_record.Needs as need
+use Rattle.reel.proofs.checks.read_record.Needs as need
 
 pub returns : need.returns
 returns c =
@@ -20,5 +20,5 @@ returns c =
       is-record bs k category packet (c .new .result)
           (c .in-Continue-category .ensures tt .1 ∙ ap (λ list. getD bs (list + 8 * k + 4) 0) (c .pre .head .list))
           (found .1 ∙ ap (λ start. part bs start category) start)
-          (found .2) (c .in-Continue-check-spare-bits .ensures tt) (c .new .ensures .values) (c .new .ensures .own),
+          (found .2) (c .in-Continue-check-spare-bits .ensures tt) (c .new .ensures .values) (c .new .ensures .proper),
     )

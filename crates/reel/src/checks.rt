@@ -1,4 +1,4 @@
-//! The tests of a reel, in their order.
+//! The check of a reel: its tests, in their order.
 ghost use mathlib.Core.Path.{_≡_};
 ghost use Prim.Native.Nat.{_<_, _^_};
 ghost use lib.ListN.{length};
@@ -12,20 +12,18 @@ ghost use Rattle.reel.specs.Headers.{HeaderOf};
 ghost use Rattle.reel.specs.Layout.{count, part};
 ghost use Rattle.reel.specs.Records.{IsRecord};
 ghost use Rattle.reel.specs.Tests.{first, fault, headerTests, recordTests, pastEnd};
-use crate::layout::HEADER;
+use crate::MOST_BYTES;
+use crate::layout::HEADER_BYTES;
 use crate::layout::Header;
-use crate::layout::RECORD;
-use crate::layout::RECORD_CATEGORY;
-use crate::layout::RECORD_LAST;
-use crate::layout::RECORD_LENGTH;
-use crate::layout::RECORD_ZERO;
+use crate::layout::RECORD_BYTES;
+use crate::layout::RECORD_CATEGORY_AT;
+use crate::layout::RECORD_LAST_AT;
+use crate::layout::RECORD_LENGTH_AT;
+use crate::layout::RECORD_ZERO_AT;
 use crate::layout::word_at;
 use crate::records::Record;
 use service::Category;
 use service::Fault;
-
-/// The most bytes that a reel may have.
-const LONGEST: usize = 65_536;
 
 /// The most records that a reel may have.
 const MOST_RECORDS: usize = 2_048;
@@ -37,7 +35,7 @@ fn check_header(bytes: &[u8]) -> Result<Header, Fault>
         (λ e. first (headerTests (now (bytes .entry))) ≡ Some (faultIs e)) ⌝ }
 {
     let length = bytes.len();
-    if length < HEADER || LONGEST < length {
+    if length < HEADER_BYTES || MOST_BYTES < length {
         return Err(Fault::Size);
     }
     let header = Header::read(bytes);
@@ -47,8 +45,8 @@ fn check_header(bytes: &[u8]) -> Result<Header, Fault>
     if MOST_RECORDS < header.count {
         return Err(Fault::RecordCount);
     }
-    if header.list < HEADER
-        || header.area < header.list + RECORD * header.count
+    if header.list < HEADER_BYTES
+        || header.area < header.list + RECORD_BYTES * header.count
         || length < header.area
     {
         return Err(Fault::Offsets);
@@ -65,11 +63,11 @@ pub(crate) fn read_record(bytes: &[u8], header: Header, k: usize) -> Result<Reco
         (λ x. (first (recordTests (now (bytes .entry)) k) ≡ None) × IsRecord (now (bytes .entry)) k x)
         (λ e. first (recordTests (now (bytes .entry)) k) ≡ Some (faultIs e)) ⌝ }
 {
-    let at = header.list + RECORD * k;
+    let at = header.list + RECORD_BYTES * k;
     let number = k as u32 + 1;
-    let category = Category::from_number(bytes[at + RECORD_CATEGORY], number)?;
-    category.check_length(bytes[at + RECORD_LENGTH] as usize, number)?;
-    if bytes[at + RECORD_ZERO] != 0 || bytes[at + RECORD_LAST] != 0 {
+    let category = Category::from_number(bytes[at + RECORD_CATEGORY_AT], number)?;
+    category.check_length(bytes[at + RECORD_LENGTH_AT] as usize, number)?;
+    if bytes[at + RECORD_ZERO_AT] != 0 || bytes[at + RECORD_LAST_AT] != 0 {
         return Err(Fault::Reserved(number));
     }
     let start = header.area + word_at(bytes, at);
@@ -98,7 +96,7 @@ fn packet_at(bytes: &[u8], start: usize, category: Category) -> Option<&[u8]>
     Some(&bytes[start..start + size])
 }
 
-/// Whether a reel is lawful, or the first of its tests that fails.
+/// Passes a lawful reel, and answers the first test that any other fails.
 pub(crate) fn check(bytes: &[u8]) -> Result<(), Fault>
     ensures { λ r. ⌜ Cases r (λ _. fault (now (bytes .entry)) ≡ None)
         (λ e. fault (now (bytes .entry)) ≡ Some (faultIs e)) ⌝ }

@@ -6,9 +6,9 @@ use Rattle.std.proofs.shelf.Results.{err-from-errBy}
 use Rattle.std.specs.declared.option.Option.the-variants.{None}
 use Rattle.service.specs.Refusals.{faultIs}
 use Rattle.reel.specs.Layout.{count}
-use Rattle.reel.specs.Tests.{first, below, recordTests}
-use Rattle.reel.proofs.First.{fault-at, below-more}
-use Rattle.reel.proofs.testing.check.Needs as need
+use Rattle.reel.specs.Tests.{first, concatBelow, recordTests}
+use Rattle.reel.proofs.First.{fault-at, concat-more}
+use Rattle.reel.proofs.checks.check.Needs as need
 
 pub returns-in-Break-read-record : need.returns-in-Break-read-record
 returns-in-Break-read-record c =
@@ -22,5 +22,5 @@ returns-in-Break-read-record c =
 pub loop-k-again : need.loop-k-again
 loop-k-again c =
     let bs = c .args .bytes .now in
-    let P : ℕ → Type 0 = λ n. first (below n (recordTests bs)) ≡ None in
-    subst P (sym (add-one (c .loop-k .k))) (below-more bs (c .loop-k .k) (c .loop-k .inv) (c .in-Continue-read-record .ensures tt .0))
+    let P : ℕ → Type 0 = λ n. first (concatBelow n (recordTests bs)) ≡ None in
+    subst P (sym (add-one (c .loop-k .k))) (concat-more bs (c .loop-k .k) (c .loop-k .inv) (c .in-Continue-read-record .ensures tt .0))

@@ -1,8 +1,0 @@
-use mathlib.Core.Path.{_≡_}
-use Rattle.std.specs.declared.option.Option.the-variants.{None}
-use Rattle.reel.specs.Tests.{first, below, recordTests}
-use Rattle.reel.proofs.testing.check.Given as given
-
--- the records before k pass
-abbrev pub Inv-loop-k : given.InvT-loop-k
-Inv-loop-k l = first (below (l .k) (recordTests (l .bytes))) ≡ None
