@@ -9,6 +9,7 @@ ghost use Rattle.std.specs.Results.{Cases};
 ghost use Rattle.std.specs.declared.option.Option.the-variants.{Some, None};
 ghost use Rattle.service.specs.Refusals.{faultIs};
 ghost use Rattle.reel.specs.Headers.{HeaderOf};
+ghost use Rattle.reel.specs.Lawful.{Lawful};
 ghost use Rattle.reel.specs.Layout.{count, part};
 ghost use Rattle.reel.specs.Records.{IsRecord};
 ghost use Rattle.reel.specs.Tests.{first, fault, headerTests, recordTests, pastEnd};
@@ -98,6 +99,15 @@ fn packet_at(bytes: &[u8], start: usize, category: Category) -> Option<&[u8]>
 
 /// Passes a lawful reel, and answers the first test that any other fails.
 pub(crate) fn check(bytes: &[u8]) -> Result<(), Fault>
+    ensures answer { λ r. ⌜ Cases r (λ _. fault (now (bytes .entry)) ≡ None)
+        (λ e. fault (now (bytes .entry)) ≡ Some (faultIs e)) ⌝ }
+    ensures lawful { λ r. ⌜ Cases r (λ _. Lawful (now (bytes .entry))) (λ _. Lawful (now (bytes .entry)) → ⊥) ⌝ }
+{
+    run_tests(bytes)
+}
+
+/// Runs the tests of a reel up to the first that fails.
+fn run_tests(bytes: &[u8]) -> Result<(), Fault>
     ensures { λ r. ⌜ Cases r (λ _. fault (now (bytes .entry)) ≡ None)
         (λ e. fault (now (bytes .entry)) ≡ Some (faultIs e)) ⌝ }
 {

@@ -6,6 +6,7 @@ ghost use Rattle.std.specs.Options.{isSome};
 ghost use Rattle.std.specs.Results.{Cases};
 ghost use Rattle.std.specs.declared.option.Option.the-variants.{Some, None};
 ghost use Rattle.service.specs.Refusals.{faultIs};
+ghost use Rattle.reel.specs.Lawful.{Lawful};
 ghost use Rattle.reel.specs.Layout.{count};
 ghost use Rattle.reel.specs.Records.{RecordAt};
 ghost use Rattle.reel.specs.Tests.{fault};
@@ -43,9 +44,10 @@ impl<'a> Reel<'a> {
 
     /// Checks the bytes of a reel. A lawful reel takes the place of this one; at a fault nothing is altered.
     pub fn load(&mut self, bytes: &'a [u8]) -> Result<(), Fault>
-        ensures { λ r. ⌜ Cases r
+        ensures answer { λ r. ⌜ Cases r
             (λ _. (fault (now (bytes .entry)) ≡ None) × (now (now (self .exit) .bytes) ≡ now (bytes .entry)))
             (λ e. (fault (now (bytes .entry)) ≡ Some (faultIs e)) × (now (self .exit) ≡ now (self .entry))) ⌝ }
+        ensures lawful { λ r. ⌜ Cases r (λ _. Lawful (now (bytes .entry))) (λ _. Lawful (now (bytes .entry)) → ⊥) ⌝ }
     {
         check(bytes)?;
         *self = Reel { bytes };

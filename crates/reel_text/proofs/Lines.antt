@@ -1,12 +1,11 @@
 -- The lines of a reel's records, one by one.
 use mathlib.Core.List.{List, [], _++_}
-use mathlib.Core.Path.{_≡_, refl, sym, ap, _∙_}
+use mathlib.Core.Path.{_≡_, refl, sym, ap}
 use Prim.Native.Nat.{ℕ, suc, _+_}
 use native.Mathlib.Numerals.{add-one}
 use lib.Chars.{codes}
 use Rattle.reel.specs.declared.records.Record.{Record}
-use Rattle.reel.specs.Layout.{categoryAt, packetOf}
-use Rattle.reel.specs.Records.{recordIs, recordOf, IsRecord}
+use Rattle.reel.specs.Records.{recordIs, IsRecord}
 use Rattle.reel_text.specs.Text.{recordText, recordLines}
 
 pub lines-none : (bs : List ℕ) → recordLines bs 0 ≡ []

@@ -1,6 +1,6 @@
 use mathlib.Core.List.{List}
-use mathlib.Core.Path.{_≡_, ap, _∙_}
-use Prim.Native.Nat.{ℕ, _+_, _*_}
+use mathlib.Core.Path.{ap, _∙_}
+use Prim.Native.Nat.{_+_, _*_}
 use lib.ListN.{getD}
 use borrow.Author.Needs.{needs}
 use Rattle.reel.specs.Layout.{areaAt, word, part}

@@ -1,7 +1,6 @@
-use mathlib.Core.Path.{sym, ap, _∙_}
+use mathlib.Core.Path.{ap, _∙_}
 use Rattle.std.proofs.shelf.Lists.{nil-from-length}
 use Rattle.service.specs.Categories.{categoryIs}
-use Rattle.reel.specs.Records.{recordOf}
 use Rattle.reel.proofs.records.Record.new.Needs as need
 
 -- a blank and an erasure have no bytes
