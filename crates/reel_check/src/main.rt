@@ -22,7 +22,7 @@ An unlawful reel prints one line alone, by the first test that it fails,
 or, for a fault of a record,
   refused NUMBER RECORD
 Either way the status is 0. It is 1, with a sentence on standard error, if the input cannot
-be read, the output cannot be written, or memory runs out.";
+be read, the output cannot be written, a word other than --help is given, or memory runs out.";
 
 fn main(rt: LibcRuntime) -> Result<(), AnyError> {
     let result = run(&rt);

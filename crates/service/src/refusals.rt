@@ -17,7 +17,7 @@ pub enum Fault {
     UnknownCategory(u32),
     /// 6: the length of this record is not its category's.
     Length(u32),
-    /// 7: the last two bytes of this record are not zero.
+    /// 7: one of the last two bytes of this record is not zero.
     Reserved(u32),
     /// 8: the packet of this record passes the reel's end.
     PastEnd(u32),

@@ -11,8 +11,9 @@ const HELP: &str = "\
 Usage: vector_check FOLDER
 
 Compares our answers with the reference vectors in a folder: names each difference, and
-prints for each file of cases how many were compared and how many differ. The status is 1 if
-any differs or a file cannot be read.";
+prints for each file of cases how many were compared and how many differ. The status is 1,
+with a sentence on standard error, if any differs, a file cannot be read, a line has no
+answer, there is nothing to compare, or it is not given one folder.";
 
 /// How many cases of a file were compared, and how many of them differ.
 #[derive(Clone, Copy)]
@@ -125,7 +126,7 @@ fn read_cases(rt: &LibcRuntime, folder: &str, file: &str) -> Result<String, AnyE
 
 /// The sentence for a file that cannot be read.
 fn unreadable(heap: Global, path: &str, cause: io::Error) -> AnyError {
-    match format!(heap, "{path} cannot be read: {cause}") {
+    match format!(heap, "cannot read {path}: {cause}") {
         Ok(sentence) => sentence.into(),
         Err(e) => e.into(),
     }
