@@ -10,8 +10,8 @@ pub use rates::Rate;
 pub use refusals::Fault;
 pub use refusals::Refusal;
 
-/// Carries a theorem: the rates, the categories and the refusals have numbers of their own, and the
-/// refusals have exactly those from 1 to 18.
+/// Carries a theorem: no two rates and no two categories share a number, no two refusals a number and a
+/// place, and the numbers of the refusals are exactly those from 1 to 18.
 pub fn distinct_numbers()
     ensures { λ _. ⌜ DistinctNumbers ⌝ }
 {}

@@ -1,6 +1,12 @@
 //! Compares this program's answers with a folder of reference vectors, which a separate program computed.
 ghost use mathlib.Core.Path.{_≡_};
+ghost use Rattle.std.specs.Of.String.{string-bytes};
+ghost use Rattle.std.specs.Options.{Cases as BySome};
+ghost use Rattle.std.specs.Vec.{made};
+ghost use Rattle.reel.specs.Tests.{fault};
+ghost use Rattle.reel_text.specs.Text.{answerText};
 ghost use Rattle.vector_check.specs.Tallies.{Counted};
+use std::alloc::AllocError;
 use std::alloc::Global;
 use std::env;
 use std::error::AnyError;
@@ -99,12 +105,26 @@ fn compare_reel(
         Ok(bytes) => bytes,
         Err(e) => return Err(unreadable(heap, path.as_str(), e)),
     };
-    let answer = reel_text::answer_text(heap, &bytes)?;
-    let same = answer.as_str() == expected;
-    if !same {
-        name_difference(rt, name, expected, answer.as_str())?;
+    match difference(heap, &bytes, expected)? {
+        None => Ok(true),
+        Some(answer) => {
+            name_difference(rt, name, expected, answer.as_str())?;
+            Ok(false)
+        }
     }
-    Ok(same)
+}
+
+/// What the check of a reel answers, if that is not what is expected.
+fn difference(heap: Global, bytes: &[u8], expected: &str) -> Result<Option<String>, AllocError>
+    ensures { λ r. ⌜ made r (λ found. BySome found (answerText (fault (now (bytes .entry))) ≡ now (expected .entry))
+        (λ s. (string-bytes s ≡ answerText (fault (now (bytes .entry)))) × (string-bytes s ≡ now (expected .entry) → ⊥))) ⌝ }
+{
+    let answer = reel_text::answer_text(heap, bytes)?;
+    if answer.as_str() == expected {
+        Ok(None)
+    } else {
+        Ok(Some(answer))
+    }
 }
 
 fn name_difference(rt: &LibcRuntime, name: &str, expected: &str, answer: &str) -> io::Result<()> {
