@@ -1,5 +1,7 @@
 //! The code that guards 29 bits of a Rate 1 packet (IS-96, A.1.4.7.1.1): a shortened cyclic code over 28 of them, and an
 //! overall parity bit.
+#![tactic(auto)]
+
 mod laws;
 mod places;
 mod polynomials;

@@ -1,5 +1,7 @@
 //! LSP codes, what they stand for, and the LSP memories of an end. Values, memories and frequencies are in grains: a grain is
 //! the sampling frequency divided by 10,813,440,000.
+#![tactic(auto)]
+
 mod codes;
 mod decay;
 mod histories;

@@ -1,4 +1,6 @@
 //! Prints what each code of LSP 1 stands for at each rate, in grains.
+#![tactic(auto)]
+
 ghost use Rattle.std.specs.Prelude.{◌≡◌, pos, IfOk, string_bytes, slice_index, slice_index_or};
 ghost use Rattle.service.specs.Rates.{rate_is};
 ghost use Rattle.lsp.specs.Quantizers.{values};

@@ -1,4 +1,6 @@
 //! A reel of recorded frames: its check, and the records of a reel that passed.
+#![tactic(auto)]
+
 ghost use Rattle.std.specs.Prelude.{◌≡◌, false, is_some, Some, None, MatchResult};
 ghost use Rattle.service.specs.Refusals.{fault_is};
 ghost use Rattle.reel.specs.Lawful.{Lawful};

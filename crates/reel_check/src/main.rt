@@ -1,4 +1,6 @@
 //! Checks the reel on standard input, and prints its records and the verdict on standard output.
+#![tactic(auto)]
+
 ghost use Rattle.std.specs.Prelude.{◌≤◌, length, IfOk};
 
 use anyhow::anyhow;

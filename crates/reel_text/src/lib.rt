@@ -1,4 +1,6 @@
 //! The text of a reel: a line for each record, and a verdict.
+#![tactic(auto)]
+
 ghost use Rattle.std.specs.Prelude.{◌≡◌, ◌<◌, ◌++◌, IfOk, string_bytes, codes, decimal, OnOk};
 ghost use Rattle.reel.specs.Layout.{count};
 ghost use Rattle.reel.specs.Records.{record_is};

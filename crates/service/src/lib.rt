@@ -1,4 +1,6 @@
 //! The types that every crate shares: the rates, the categories, and the refusals by number.
+#![tactic(auto)]
+
 ghost use Rattle.service.specs.Distinct.{DistinctNumbers};
 
 mod categories;

@@ -1,4 +1,6 @@
 //! Compares this program's answers with a folder of reference vectors, which a separate program computed.
+#![tactic(auto)]
+
 ghost use Rattle.std.specs.Prelude.{◌≡◌, IfOk, string_bytes, MatchOption, ◌≢◌};
 ghost use Rattle.reel.specs.Tests.{fault};
 ghost use Rattle.reel_text.specs.Text.{answer_text};

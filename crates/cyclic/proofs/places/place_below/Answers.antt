@@ -11,7 +11,7 @@ loop-power-init c = (refl, omega arith, λ k h. absurd (omega arith))
 pub loop-power-preserved : goal.loop-power-preserved
 loop-power-preserved c =
     let i = c.loop-power.invariant in (
-      c.shift-in-column.ensures.value ∙ ap (λ (r : ℕ). shift_in r 0) i.0 ∙ sym (rem_next c.loop-power.power),
-      c.shift-in-column.ensures.degree,
+      c.shift_in-column.ensures.value ∙ ap (λ (r : ℕ). shift_in r 0) i.0 ∙ sym (rem_next c.loop-power.power),
+      c.shift_in-column.ensures.degree,
       below_more _ _ i.2 (λ e. c.if-column-syndrome.false (i.0 ∙ e)),
     )

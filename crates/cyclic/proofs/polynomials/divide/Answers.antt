@@ -12,10 +12,10 @@ loop-i-init c = (sym (ap rem (div-eq_of_lt c.requires.0)), omega arith)
 
 pub loop-i-preserved : goal.loop-i-preserved
 loop-i-preserved c = (
-  c.shift-in-r.ensures.value
+  c.shift_in-r.ensures.value
       ∙ ap (λ (r : ℕ). shift_in r (bit_and (c.args.polynomial / 2 ^ (c.loop-i.i - 1)) 1)) c.loop-i.invariant.0
       ∙ rem_down c.args.polynomial c.loop-i.i c.loop-i-test.true,
-  c.shift-in-r.ensures.degree,
+  c.shift_in-r.ensures.degree,
 )
 
 pub returns : goal.returns

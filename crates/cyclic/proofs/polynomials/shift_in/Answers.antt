@@ -6,7 +6,7 @@ use Rattle.cyclic.proofs.polynomials.shift_in.Goals as goal
 pub returns-then-p-ge-X10 : goal.returns-then-p-ge-X10
 returns-then-p-ge-X10 c =
     let p = c.args.r * 2 + c.args.b in
-    let e = reduced_is p (omega arith) (omega arith) ∙ sym c.minus-generator.ensures in
+    let e = reduced_is p (omega arith) (omega arith) ∙ sym c.minus_generator.ensures in
     record {
       value = sym e;
       degree = subst (λ (n : ℕ). n < 1024) e (shift_in_lt c.args.r c.args.b (omega arith) (omega arith));

@@ -21,14 +21,14 @@ product c =
 sum : (c : goal.After-from) → back c.from.result +ℤ back (back c.from-m.result *ℤ back c.from-h.result) ≡ c.args.w +ℤ pos (top_code c.args.rate * half_step c.args.rate c.args.i)
 sum c = omega (arith, ints, product c, reach c.args.rate c.args.i)
 
-pub overflow-add-from : goal.overflow-add-from
-overflow-add-from c = omega (arith, ints, sum c, reach c.args.rate c.args.i)
+pub overflow_add-from : goal.overflow_add-from
+overflow_add-from c = omega (arith, ints, sum c, reach c.args.rate c.args.i)
 
 total : (c : goal.After-from) → back (back c.from.result +ℤ back (back c.from-m.result *ℤ back c.from-h.result)) +ℤ back c.from-h.result ≡ c.args.w +ℤ pos (top_code c.args.rate * half_step c.args.rate c.args.i) +ℤ pos (half_step c.args.rate c.args.i)
 total c = rw (sum c) (omega (arith, ints, reach c.args.rate c.args.i))
 
-pub overflow-add-from-2 : goal.overflow-add-from-2
-overflow-add-from-2 c = rw (total c) (omega (arith, ints, reach c.args.rate c.args.i))
+pub overflow_add-from-2 : goal.overflow_add-from-2
+overflow_add-from-2 c = rw (total c) (omega (arith, ints, reach c.args.rate c.args.i))
 
 pub returns : goal.returns
 returns c =
@@ -36,5 +36,5 @@ returns c =
     let s : SFits w128 (c.args.w +ℤ pos (top_code c.args.rate * half_step c.args.rate c.args.i) +ℤ pos (half_step c.args.rate c.args.i)) = omega (arith, ints, reach c.args.rate c.args.i) in
     let t = ap back e ∙ to_z-of_z w128 _ s in
     let h : back (pos 2 *ℤ back c.from-h.result) ≡ pos (2 * half_step c.args.rate c.args.i) = omega (arith, ints) in
-    let n = to_z-of_z w128 c.div-euclid.result (record { sfits = c.div-euclid.type-inv }) in
-    n ∙ c.div-euclid.ensures ∙ rw (t, h)
+    let n = to_z-of_z w128 c.div_euclid.result (record { sfits = c.div_euclid.type_inv }) in
+    n ∙ c.div_euclid.ensures ∙ rw (t, h)

@@ -8,21 +8,21 @@ use Rattle.lsp.proofs.quantizers.value.Goals as goal
 abbrev back : ℤ → ℤ
 back z = to_z w64 (of_z w64 z)
 
-fits : (c : goal.After-half-step) → SFits w64 (value_of c.args.rate c.args.i c.args.c)
+fits : (c : goal.After-half_step) → SFits w64 (value_of c.args.rate c.args.i c.args.c)
 fits c = let h = value_most c.args.rate c.args.i c.args.c c.requires.1 in omega (arith, ints)
 
 -- the product that the code computes
-product : (c : goal.After-half-step) → back (back (pos 2 *ℤ back c.from.result) -ℤ back c.from-2.result) *ℤ back c.half-step.result ≡ value_of c.args.rate c.args.i c.args.c
+product : (c : goal.After-half_step) → back (back (pos 2 *ℤ back c.from.result) -ℤ back c.from-2.result) *ℤ back c.half_step.result ≡ value_of c.args.rate c.args.i c.args.c
 product c =
-    let a : SFits w64 c.from.result = record { sfits = c.from.type-inv } in
+    let a : SFits w64 c.from.result = record { sfits = c.from.type_inv } in
     let b : SFits w64 (pos 2 *ℤ c.from.result) = omega (arith, ints) in
-    let m : SFits w64 c.from-2.result = record { sfits = c.from-2.type-inv } in
+    let m : SFits w64 c.from-2.result = record { sfits = c.from-2.type_inv } in
     let d : SFits w64 (pos 2 *ℤ c.from.result -ℤ c.from-2.result) = omega (arith, ints) in
-    let h : SFits w64 c.half-step.result = record { sfits = c.half-step.type-inv } in
-    simp to_z-of_z (simp (c.from.ensures, c.from-2.ensures, c.top-code.ensures, c.half-step.ensures))
+    let h : SFits w64 c.half_step.result = record { sfits = c.half_step.type_inv } in
+    simp to_z-of_z (simp (c.from.ensures, c.from-2.ensures, c.top_code.ensures, c.half_step.ensures))
 
-pub overflow-mul-result-2 : goal.overflow-mul-result-2
-overflow-mul-result-2 c = rw (product c) (fits c)
+pub overflow_mul-result-2 : goal.overflow_mul-result-2
+overflow_mul-result-2 c = rw (product c) (fits c)
 
 pub returns : goal.returns
 returns c = rw (product c) (to_z-of_z w64 _ (fits c))

@@ -18,7 +18,7 @@ loop-i-preserved c =
     let b = bound_most c.loop-i.i in
     let m : SFits w64 (get_or c.args.m c.loop-i.i (pos 0)) = omega (arith, ints) in
     filled_more _ (pos 0) c.loop-i.i _ _ c.loop-i-test.true c.loop-i.invariant
-    (to_z-of_z w64 c.decay.result (record { sfits = c.decay.type-inv }) ∙ (simp to_z-of_z at c.decay.ensures) ∙ decay_is (get_or c.args.m c.loop-i.i (pos 0)))
+    (to_z-of_z w64 c.decay.result (record { sfits = c.decay.ok }) ∙ (simp to_z-of_z at c.decay.ensures) ∙ decay_is (get_or c.args.m c.loop-i.i (pos 0)))
 
 pub returns : goal.returns
 returns c =

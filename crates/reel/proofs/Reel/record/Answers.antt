@@ -11,4 +11,4 @@ returns c =
     let lt : c.args.k < count c.args.self.now.bytes.now = omega arith in
     let P : Option Record → Type 0 = λ o. RecordAt bs c.args.k o in
     subst P (sym c.ok.ensures.value)
-    (record_at_lem bs c.args.k c.read-record.result (none_from_not_some _ c.args.self.now.lawful) lt c.read-record.ensures)
+    (record_at_lem bs c.args.k c.read_record.result (none_from_not_some _ c.args.self.now.lawful) lt c.read_record.ensures)

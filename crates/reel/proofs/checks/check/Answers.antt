@@ -3,6 +3,6 @@ use Rattle.reel.proofs.checks.check.Goals as goal
 
 pub returns : goal.returns
 returns c = record {
-  answer = c.run-tests.ensures;
-  lawful = lawful_by_answer c.args.bytes.now c.run-tests.result c.run-tests.ensures;
+  answer = c.run_tests.ensures;
+  lawful = lawful_by_answer c.args.bytes.now c.run_tests.result c.run_tests.ensures;
 }

@@ -7,14 +7,14 @@ pub returns : goal.returns
 returns c =
     let bs = c.args.bytes.now in
     let k = c.args.k in
-    let category = c.in-ok-category.category in
+    let category = c.in_ok-category.category in
     let packet = c.in-Some.packet.now in
     let found = c.in-Some.ensures in
-    let start = ap (λ area. area + c.word-at.result) c.requires.head.area
-    ∙ ap (λ n. area_at bs + n) (c.word-at.ensures.value ∙ ap (λ list. word bs (list + 8 * k)) c.requires.head.list) in (
+    let start = ap (λ area. area + c.word_at.result) c.requires.head.area
+    ∙ ap (λ n. area_at bs + n) (c.word_at.ensures.value ∙ ap (λ list. word bs (list + 8 * k)) c.requires.head.list) in (
       search rules,
       is_record bs k category packet c.new.result
-          (c.in-ok-category.ensures.1 ∙ ap (λ list. get_or bs (list + 8 * k + 4) 0) c.requires.head.list)
+          (c.in_ok-category.ensures.1 ∙ ap (λ list. get_or bs (list + 8 * k + 4) 0) c.requires.head.list)
           (found.1 ∙ ap (λ start. part bs start category) start)
-          found.2 c.in-ok-check-spare-bits.ensures c.new.ensures.values c.new.ensures.proper,
+          found.2 c.in_ok-check_spare_bits.ensures c.new.ensures.values c.new.ensures.proper,
     )
