@@ -8,7 +8,7 @@ pub loop-byte-preserved : goal.loop-byte-preserved
 loop-byte-preserved c =
     let bs = c.args.bytes.now in
     let i = c.loop-byte.byte-index in
-    c.in-ok-push-hex.ensures ∙ ap (λ text. text ++ hex_byte (get_or bs i 0)) c.loop-byte.invariant
+    c.in_ok-push_hex.ensures ∙ ap (λ text. text ++ hex_byte (get_or bs i 0)) c.loop-byte.invariant
     ∙ sym (hex_more bs i c.loop-byte-test.true)
 
 pub returns : goal.returns

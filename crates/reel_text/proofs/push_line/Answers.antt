@@ -3,5 +3,5 @@ use Rattle.reel_text.proofs.push_line.Goals as goal
 
 pub returns : goal.returns
 returns c =
-    c.in-ok-push-str-2.ensures.bytes ∙ ap (λ text. text ++ codes "\n") c.in-ok-push-str.ensures.bytes
+    c.in_ok-push_str-2.ensures.bytes ∙ ap (λ text. text ++ codes "\n") c.in_ok-push_str.ensures.bytes
     ∙ append_assoc (string_bytes c.args.text.now) c.args.line.now (codes "\n")

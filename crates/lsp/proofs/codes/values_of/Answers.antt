@@ -6,7 +6,7 @@ use Rattle.lsp.proofs.codes.values_of.Goals as goal
 pub loop-i-preserved : goal.loop-i-preserved
 loop-i-preserved c =
     filled_more _ (pos 0) c.loop-i.i _ _ c.loop-i-test.true c.loop-i.invariant
-    (to_z-of_z w64 c.value.result (record { sfits = c.value.ok }) ∙ c.value.ensures)
+    (to_z-of_z w64 c.value.result (record { sfits = c.value.type_inv }) ∙ c.value.ensures)
 
 pub returns : goal.returns
 returns c = filled_all _ (pos 0) c.loop-i.i _ c.loop-i-test.false c.loop-i.invariant

@@ -6,11 +6,11 @@ use Rattle.lsp.proofs.Decays.{decay_is, bound_most}
 use Rattle.lsp.proofs.Ranges.{decayed_in}
 use Rattle.lsp.proofs.states.decay_all.Goals as goal
 
-pub invariant-of-decay : goal.invariant-of-decay
-invariant-of-decay c =
+pub invariant_of-decay : goal.invariant_of-decay
+invariant_of-decay c =
     let h = c.requires c.loop-i.i c.loop-i-test.true in
     let b = bound_most c.loop-i.i in
-    (omega (arith, ints), tt)
+    record { small = omega (arith, ints) }
 
 pub loop-i-preserved : goal.loop-i-preserved
 loop-i-preserved c =
@@ -18,7 +18,7 @@ loop-i-preserved c =
     let b = bound_most c.loop-i.i in
     let m : SFits w64 (get_or c.args.m c.loop-i.i (pos 0)) = omega (arith, ints) in
     filled_more _ (pos 0) c.loop-i.i _ _ c.loop-i-test.true c.loop-i.invariant
-    (to_z-of_z w64 c.decay.result (record { sfits = c.decay.ok }) ∙ (simp to_z-of_z at c.decay.ensures) ∙ decay_is (get_or c.args.m c.loop-i.i (pos 0)))
+    (to_z-of_z w64 c.decay.result (record { sfits = c.decay.type_inv }) ∙ (simp to_z-of_z at c.decay.ensures) ∙ decay_is (get_or c.args.m c.loop-i.i (pos 0)))
 
 pub returns : goal.returns
 returns c =
