@@ -11,6 +11,7 @@ use lsp::{LspCodes, top_code};
 use service::{Rate, Refusal};
 use std::alloc::{AllocError, Global};
 use std::env;
+use std::process::ExitCode;
 
 const HELP: &str = "\
 Usage: lsp_values
@@ -22,12 +23,14 @@ and the value in grains, of which the sampling frequency has 10,813,440,000.";
 
 const HEADER: &str = "rate;code;LSP1";
 
-fn main(rt: HostRuntime) -> anyhow::Result<()> {
-    let result = run(&rt);
-    if let Err(e) = &result {
-        let _ = eprintln!(rt; "lsp_values: {e}");
+fn main(rt: HostRuntime) -> ExitCode {
+    match run(&rt) {
+        Ok(()) => ExitCode::SUCCESS,
+        Err(e) => {
+            let _ = eprintln!(rt; "lsp_values: {e}");
+            ExitCode::FAILURE
+        }
     }
-    result
 }
 
 fn run(rt: &HostRuntime) -> anyhow::Result<()> {

@@ -5,6 +5,7 @@ ghost use Rattle.std.specs.Prelude.{◌≤◌, length, IfOk};
 
 use anyhow::anyhow;
 use std::io::Read;
+use std::process::ExitCode;
 use std::{env, io};
 
 /// One byte more than the longest reel: an input that fills it is refused, and not read to its end.
@@ -24,12 +25,14 @@ or, for a fault of a record,
 Either way the status is 0. It is 1, with a sentence on standard error, if the input cannot
 be read, the output cannot be written, a word other than --help is given, or memory runs out.";
 
-fn main(rt: HostRuntime) -> anyhow::Result<()> {
-    let result = run(&rt);
-    if let Err(e) = &result {
-        let _ = eprintln!(rt; "reel_check: {e}");
+fn main(rt: HostRuntime) -> ExitCode {
+    match run(&rt) {
+        Ok(()) => ExitCode::SUCCESS,
+        Err(e) => {
+            let _ = eprintln!(rt; "reel_check: {e}");
+            ExitCode::FAILURE
+        }
     }
-    result
 }
 
 fn run(rt: &HostRuntime) -> anyhow::Result<()> {

@@ -175,7 +175,6 @@ fn hex_digit(value: u8) -> char
 #[cfg(test)]
 mod tests {
     use super::*;
-    use std::process::Abort;
     use std::test::Fail;
 
     // Two packets at Rate 1/8.
@@ -185,16 +184,18 @@ mod tests {
         \x02\x00\x00\x00\x01\x02\x00\x00\x00\x00\xff\xff\
     ";
 
-    fn check_text(rt: &impl Abort, heap: Global, bytes: &[u8], expected: &str) -> Result<(), Fail> {
+    fn check_text(heap: Global, bytes: &[u8], expected: &str) -> Result<(), Fail> {
         let text = listing(heap, bytes)?;
-        assert!(rt; text.as_str() == expected, "{}", expected);
-        Ok(())
+        if text.as_str() == expected {
+            Ok(())
+        } else {
+            Err(Fail::from(text))
+        }
     }
 
     #[test]
     fn lists_a_lawful_reel(rt: HostRuntime) -> Result<(), Fail> {
         check_text(
-            &rt,
             rt.alloc(),
             TWO_PACKETS,
             "1;Rate 1/8;0000\n2;Rate 1/8;ffff\nok 2\n",
@@ -206,14 +207,14 @@ mod tests {
         let heap = rt.alloc();
         let mut bytes = *TWO_PACKETS;
         bytes[31] = 1;
-        check_text(&rt, heap, &bytes, "refused 7 2\n")?;
+        check_text(heap, &bytes, "refused 7 2\n")?;
         bytes[29] = 3;
-        check_text(&rt, heap, &bytes, "refused 6 2\n")?;
+        check_text(heap, &bytes, "refused 6 2\n")?;
         bytes[20] = 7;
-        check_text(&rt, heap, &bytes, "refused 5 1\n")?;
+        check_text(heap, &bytes, "refused 5 1\n")?;
         bytes[12] = 35;
-        check_text(&rt, heap, &bytes, "refused 2\n")?;
-        check_text(&rt, heap, &bytes[0..15], "refused 1\n")
+        check_text(heap, &bytes, "refused 2\n")?;
+        check_text(heap, &bytes[0..15], "refused 1\n")
     }
 
     #[test]

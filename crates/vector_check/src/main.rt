@@ -8,6 +8,7 @@ ghost use Rattle.vector_check.specs.Tallies.{Counted};
 
 use anyhow::anyhow;
 use std::alloc::{AllocError, Global};
+use std::process::ExitCode;
 use std::{env, fs, io};
 
 const HELP: &str = "\
@@ -46,12 +47,14 @@ impl Tally {
     }
 }
 
-fn main(rt: HostRuntime) -> anyhow::Result<()> {
-    let result = run(&rt);
-    if let Err(e) = &result {
-        let _ = eprintln!(rt; "vector_check: {e}");
+fn main(rt: HostRuntime) -> ExitCode {
+    match run(&rt) {
+        Ok(()) => ExitCode::SUCCESS,
+        Err(e) => {
+            let _ = eprintln!(rt; "vector_check: {e}");
+            ExitCode::FAILURE
+        }
     }
-    result
 }
 
 fn run(rt: &HostRuntime) -> anyhow::Result<()> {
@@ -141,7 +144,7 @@ fn read_cases(rt: &HostRuntime, folder: &str, file: &str) -> anyhow::Result<Stri
 /// The sentence for a file that cannot be read.
 fn unreadable(heap: Global, path: &str, cause: io::Error) -> anyhow::Error {
     match format!(in heap; "cannot read {path}: {cause}") {
-        Ok(sentence) => sentence.into(),
+        Ok(sentence) => anyhow!(sentence),
         Err(e) => e.into(),
     }
 }
