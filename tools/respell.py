@@ -2,6 +2,7 @@
 """Respells this repository's own definitions and lemmas as Rattle now spells them: words in snake case, a dash only
 between two names. Run once, at the top, after Rattle's own porting script. Names that the checker makes from the
 source, as goals and steps of a proof, and the names of functions keep their spelling."""
+import os
 import re
 import subprocess
 import sys
@@ -73,7 +74,7 @@ NAME = re.compile(
 def main():
     listed = subprocess.run(["git", "ls-files"], capture_output=True, text=True, check=True).stdout.split("\n")
     for path in listed:
-        if not path.endswith((".rt", ".antt", ".md", ".edit")):
+        if not path.endswith((".rt", ".antt", ".md", ".edit")) or not os.path.isfile(path):
             continue
         text = open(path, encoding="utf-8").read()
         new = NAME.sub(lambda m: NAMES[m.group(1)], text)

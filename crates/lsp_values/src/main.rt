@@ -8,7 +8,7 @@ ghost use Rattle.lsp_values.specs.Text.{row_text};
 
 use anyhow::anyhow;
 use lsp::{LspCodes, top_code};
-use service::{Rate, Refusal};
+use service::Rate;
 use std::alloc::{AllocError, Global};
 use std::env;
 use std::process::ExitCode;

@@ -1,5 +1,5 @@
 -- The list of tests passes exactly the lawful reels.
-use Rattle.std.proofs.Common.{◌≡◌, ℕ, zero, suc, ◌+◌, ◌<◌, ◌≤◌, Bool, true, false, cond, not, ◌&&◌, ◌||◌, List, [], ◌∷◌, Some, None, Ok, Err, Result, sym, refl, ◌∙◌, arith, rules}
+use Rattle.std.proofs.Common.{◌≡◌, ℕ, zero, suc, ◌<◌, List, Some, None, Ok, Err, Result, refl, ◌∙◌, arith, rules}
 use Rattle.std.specs.Result as results
 use Rattle.service.specs.declared.refusals.Fault.{Fault}
 use Rattle.service.specs.Refusals.{Answer, fault_is}

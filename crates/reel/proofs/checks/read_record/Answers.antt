@@ -1,4 +1,4 @@
-use Rattle.std.proofs.Common.{◌+◌, ◌*◌, List, get_or, ap, ◌∙◌, rules}
+use Rattle.std.proofs.Common.{◌+◌, ◌*◌, get_or, ap, ◌∙◌, rules}
 use Rattle.reel.specs.Layout.{area_at, word, part}
 use Rattle.reel.proofs.Reading.{is_record}
 use Rattle.reel.proofs.checks.read_record.Goals as goal
