@@ -1,5 +1,7 @@
 pub mod Rates
 pub mod Categories
 pub mod Refusals
+pub mod Names
+pub mod Texts
 pub mod Tests
 pub mod Distinct

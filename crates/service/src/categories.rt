@@ -1,30 +1,32 @@
 //! The categories in which a frame arrives, and what each asks of its packet.
-ghost use Rattle.std.specs.Prelude.{◌≡◌, true, false, MatchResult};
+ghost use Rattle.std.specs.Prelude.{◌≡◌, true, false, Some, MatchResult};
 ghost use Rattle.service.specs.Categories.{category_is, packet as packet_of};
 ghost use Rattle.service.specs.Rates.{rate_is};
 ghost use Rattle.service.specs.Refusals.{fault_is, refused_at};
 ghost use Rattle.service.specs.Tests.{unknown_category, wrong_length, spare_bits_set};
+ghost use Rattle.service.specs.Texts.{category_text};
 
 use crate::rates::Rate;
 use crate::refusals::Fault;
+use std::fmt;
 
 /// How a frame arrived.
 #[derive(Clone, Copy, PartialEq, Eq, Debug)]
 pub enum Category {
     /// 0: a blank, a frame in which the sender sent no voice packet.
-    Blank,
+    Blank = 0,
     /// 1: a packet at Rate 1/8.
-    Eighth,
+    Eighth = 1,
     /// 2: a packet at Rate 1/4.
-    Quarter,
+    Quarter = 2,
     /// 3: a packet at Rate 1/2.
-    Half,
+    Half = 3,
     /// 4: a packet at Rate 1.
-    Full,
+    Full = 4,
     /// 5: suspect, a packet at Rate 1 with probable bit errors.
-    Suspect,
+    Suspect = 5,
     /// 6: an erasure, a frame of insufficient quality.
-    Erasure,
+    Erasure = 6,
 }
 
 /// The index of a Rate 1 packet's last byte: it has 22.
@@ -52,21 +54,6 @@ impl Category {
         }
     }
 
-    /// The category's number, from 0 to 6.
-    pub fn number(self) -> u8
-        ensures { result ≡ (category_is self).number }
-    {
-        match self {
-            Category::Blank => 0,
-            Category::Eighth => 1,
-            Category::Quarter => 2,
-            Category::Half => 3,
-            Category::Full => 4,
-            Category::Suspect => 5,
-            Category::Erasure => 6,
-        }
-    }
-
     /// The rate of the packet; a blank and an erasure have none.
     pub fn rate(self) -> Option<Rate>
         ensures { result ≡ (category_is self).rate }
@@ -84,10 +71,7 @@ impl Category {
     pub fn packet_bytes(self) -> usize
         ensures { result ≡ (category_is self).bytes }
     {
-        match self.rate() {
-            Some(rate) => rate.packet_bytes(),
-            None => 0,
-        }
+        self.rate().map_or(0, |rate| rate.packet_bytes())
     }
 
     /// Passes the length of the category's packet, and answers fault 6 at this place for any other.
@@ -95,11 +79,10 @@ impl Category {
         ensures { MatchResult result (λ _. wrong_length self length ≡ false)
             (λ e. (wrong_length self length ≡ true) × (fault_is e ≡ refused_at 6 place)) }
     {
-        if length == self.packet_bytes() {
-            Ok(())
-        } else {
-            Err(Fault::Length(place))
+        if length != self.packet_bytes() {
+            return Err(Fault::Length(place));
         }
+        Ok(())
     }
 
     /// Answers fault 9 at this place if a spare bit of the category's packet is set. Bytes past the packet's
@@ -108,15 +91,10 @@ impl Category {
         ensures { MatchResult result (λ _. spare_bits_set self packet.now ≡ false)
             (λ e. (spare_bits_set self packet.now ≡ true) × (fault_is e ≡ refused_at 9 place)) }
     {
-        let at_fault = match self {
-            Category::Full | Category::Suspect => spare_bits_set(packet),
-            _ => false,
-        };
-        if at_fault {
-            Err(Fault::SpareBits(place))
-        } else {
-            Ok(())
+        if matches!(self, Category::Full | Category::Suspect) && spare_bits_set(packet) {
+            return Err(Fault::SpareBits(place));
         }
+        Ok(())
     }
 }
 
@@ -124,10 +102,35 @@ impl Category {
 fn spare_bits_set(packet: &[u8]) -> bool
     ensures { result ≡ spare_bits_set Category.Full packet.now }
 {
-    if packet.len() <= LAST_BYTE {
-        return false;
+    packet
+        .get(LAST_BYTE)
+        .is_some_and(|byte| byte % SPARE_VALUES != 0)
+}
+
+impl fmt::Display for Category {
+    ghost output = { λ category. Some (category_text category) };
+
+    /// Writes what arrived, in words.
+    fn fmt<W: fmt::Write>(&self, f: &mut fmt::Formatter<W>) -> fmt::Result {
+        f.write_str(match self {
+            Category::Blank => "blank",
+            Category::Eighth => "Rate 1/8",
+            Category::Quarter => "Rate 1/4",
+            Category::Half => "Rate 1/2",
+            Category::Full => "Rate 1",
+            Category::Suspect => "suspect Rate 1",
+            Category::Erasure => "erasure",
+        })
     }
-    packet[LAST_BYTE] % SPARE_VALUES != 0
+}
+
+impl From<Category> for u8 {
+    ghost from_gives = { λ category number. number ≡ (category_is category).number };
+
+    /// The category's number, from 0 to 6.
+    fn from(category: Category) -> u8 {
+        category as u8
+    }
 }
 
 impl From<Rate> for Category {

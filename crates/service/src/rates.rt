@@ -1,7 +1,7 @@
 //! The rates of a voice packet.
-ghost use Rattle.std.specs.Prelude.{◌≡◌, MatchResult, ◌≢◌};
+ghost use Rattle.std.specs.Prelude.{◌≡◌};
 ghost use Rattle.service.specs.Rates.{rate_is};
-ghost use Rattle.service.specs.Refusals.{refusal_is, refused};
+ghost use Rattle.service.specs.Names.{NamesRate};
 
 use crate::refusals::Refusal;
 
@@ -9,21 +9,22 @@ use crate::refusals::Refusal;
 #[derive(Clone, Copy, PartialEq, Eq, Debug)]
 pub enum Rate {
     /// Rate 1/8.
-    Eighth,
+    Eighth = 1,
     /// Rate 1/4.
-    Quarter,
+    Quarter = 2,
     /// Rate 1/2.
-    Half,
+    Half = 3,
     /// Rate 1.
-    Full,
+    Full = 4,
 }
 
-impl Rate {
+impl TryFrom<u8> for Rate {
+    type Error = Refusal;
+
+    ghost try_from_gives = { NamesRate };
+
     /// The rate that calls name by this number, or refusal 17.
-    pub fn from_number(number: u8) -> Result<Rate, Refusal>
-        ensures { MatchResult result (λ rate. (rate_is rate).number ≡ number)
-            (λ e. (refusal_is e ≡ refused 17) × ((rate : Rate) → (rate_is rate).number ≢ number)) }
-    {
+    fn try_from(number: u8) -> Result<Rate, Refusal> {
         match number {
             1 => Ok(Rate::Eighth),
             2 => Ok(Rate::Quarter),
@@ -32,19 +33,18 @@ impl Rate {
             _ => Err(Refusal::Codes),
         }
     }
+}
+
+impl From<Rate> for u8 {
+    ghost from_gives = { λ rate number. number ≡ (rate_is rate).number };
 
     /// The number by which calls name the rate.
-    pub fn number(self) -> u8
-        ensures { result ≡ (rate_is self).number }
-    {
-        match self {
-            Rate::Eighth => 1,
-            Rate::Quarter => 2,
-            Rate::Half => 3,
-            Rate::Full => 4,
-        }
+    fn from(rate: Rate) -> u8 {
+        rate as u8
     }
+}
 
+impl Rate {
     /// How many bits a packet has.
     pub fn packet_bits(self) -> usize
         ensures { result ≡ (rate_is self).bits }

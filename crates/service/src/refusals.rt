@@ -1,6 +1,10 @@
 //! Why a call refuses, each cause with its number and the place that it names.
-ghost use Rattle.std.specs.Prelude.{◌≡◌};
+ghost use Rattle.std.specs.Prelude.{◌≡◌, Some};
 ghost use Rattle.service.specs.Refusals.{fault_is, refusal_is};
+ghost use Rattle.service.specs.Texts.{refused_text};
+
+use std::error::Error;
+use std::fmt;
 
 /// What a reel, an arrival or a packet can be faulted for. A record is counted from 1 on a reel.
 #[derive(Clone, Copy, PartialEq, Eq, Debug)]
@@ -122,3 +126,29 @@ impl From<Fault> for Refusal {
         Refusal::Faulty(cause)
     }
 }
+
+impl fmt::Display for Refusal {
+    ghost output = { λ refusal. Some (refused_text (refusal_is refusal)) };
+
+    /// Writes the refusal's number, and the place that it names.
+    fn fmt<W: fmt::Write>(&self, f: &mut fmt::Formatter<W>) -> fmt::Result {
+        let number = self.number();
+        match self.place() {
+            Some(place) => write!(f, "refused {number} {place}"),
+            None => write!(f, "refused {number}"),
+        }
+    }
+}
+
+impl fmt::Display for Fault {
+    ghost output = { λ fault. Some (refused_text (fault_is fault)) };
+
+    /// Writes what is written of the refusal.
+    fn fmt<W: fmt::Write>(&self, f: &mut fmt::Formatter<W>) -> fmt::Result {
+        Refusal::from(*self).fmt(f)
+    }
+}
+
+impl Error for Refusal {}
+
+impl Error for Fault {}
