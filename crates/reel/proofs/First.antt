@@ -44,16 +44,21 @@ fault_by_header bs e h = first_stop (header_tests bs) (concat_below (count bs) (
 pub fault_by_records : (bs : List ℕ) → first (header_tests bs) ≡ None → fault bs ≡ first (concat_below (count bs) (record_tests bs))
 fault_by_records bs h = first_skip (header_tests bs) (concat_below (count bs) (record_tests bs)) h
 
+concat_pass : (f : ℕ → List (Bool × Answer)) (n : ℕ) → ((k : ℕ) → k < n → first (f k) ≡ None) → first (concat_below n f) ≡ None
+concat_pass f zero each = refl
+concat_pass f (suc n) each =
+    first_skip (concat_below n f) (f n) (concat_pass f n (λ k lt. each k (omega arith))) ∙ each n (omega arith)
+
 -- the first record that fails decides
-pub fault_at : (bs : List ℕ) (k : ℕ) (e : Answer) → first (header_tests bs) ≡ None → first (concat_below k (record_tests bs)) ≡ None
+pub fault_at : (bs : List ℕ) (k : ℕ) (e : Answer) → first (header_tests bs) ≡ None → ((j : ℕ) → j < k → first (record_tests bs j) ≡ None)
     → k < count bs → first (record_tests bs k) ≡ Some e → fault bs ≡ Some e
 fault_at bs k e head before lt here =
     fault_by_records bs head
-    ∙ concat_stop (record_tests bs) (suc k) (count bs) e (first_skip (concat_below k (record_tests bs)) (record_tests bs k) before ∙ here) (omega arith)
+    ∙ concat_stop (record_tests bs) (suc k) (count bs) e (first_skip (concat_below k (record_tests bs)) (record_tests bs k) (concat_pass (record_tests bs) k before) ∙ here) (omega arith)
 
--- one more record passes
-pub concat_more : (bs : List ℕ) (k : ℕ) → first (concat_below k (record_tests bs)) ≡ None → first (record_tests bs k) ≡ None → first (concat_below (suc k) (record_tests bs)) ≡ None
-concat_more bs k before here = first_skip (concat_below k (record_tests bs)) (record_tests bs k) before ∙ here
+-- where the header and every record pass, there is no fault
+pub no_fault : (bs : List ℕ) → first (header_tests bs) ≡ None → ((k : ℕ) → k < count bs → first (record_tests bs k) ≡ None) → fault bs ≡ None
+no_fault bs head each = fault_by_records bs head ∙ concat_pass (record_tests bs) (count bs) each
 
 -- the header of a lawful reel passes, and so does each record
 pub header_passes : (bs : List ℕ) → fault bs ≡ None → first (header_tests bs) ≡ None

@@ -1,5 +1,5 @@
 //! The check of a reel: its tests, in their order.
-ghost use Rattle.std.specs.Prelude.{◌≡◌, ◌^◌, ◌<◌, true, false, length, Some, None, MatchOption, MatchResult};
+ghost use Rattle.std.specs.Prelude.{◌≡◌, ◌^◌, ◌<◌, true, false, length, Some, None, IfErr, MatchOption, MatchResult};
 ghost use Rattle.service.specs.Categories.{category_is};
 ghost use Rattle.service.specs.Refusals.{fault_is};
 ghost use Rattle.reel.specs.Headers.{HeaderOf};
@@ -19,54 +19,83 @@ use service::{Category, Fault};
 /// The most records that a reel may have.
 const MOST_RECORDS: usize = 2_048;
 
-/// The header of a reel, or the first of its tests that fails.
-fn check_header(bytes: &[u8]) -> Result<Header, Fault>
-    ensures { MatchResult result
-        (λ header. (first (header_tests bytes.now) ≡ None) × HeaderOf bytes.now header)
-        (λ e. first (header_tests bytes.now) ≡ Some (fault_is e)) }
-{
-    let length = bytes.len();
-    if length < HEADER_BYTES || MOST_BYTES < length {
-        return Err(Fault::Size);
-    }
-    let header = Header::read(bytes);
-    if header.length != length {
-        return Err(Fault::LengthField);
-    }
-    if MOST_RECORDS < header.count {
-        return Err(Fault::RecordCount);
-    }
-    if header.list < HEADER_BYTES
-        || header.area < header.list + RECORD_BYTES * header.count
-        || length < header.area
-    {
-        return Err(Fault::Offsets);
-    }
-    Ok(header)
+/// The bytes of a reel whose header passed its tests, with that header.
+#[derive(Clone, Copy)]
+pub(crate) struct Layout<'a> {
+    bytes: &'a [u8],
+    header: Header,
+    ghost read: { HeaderOf bytes.now header },
+    ghost passed: { first (header_tests bytes.now) ≡ None },
 }
 
-/// Record `k`, from 0, or the first of its tests that fails.
-pub(crate) fn read_record(bytes: &[u8], header: Header, k: usize) -> Result<Record<'_>, Fault>
-    requires head { HeaderOf bytes.now header }
-    requires passed { first (header_tests bytes.now) ≡ None }
-    requires some { k < count bytes.now }
-    ensures { MatchResult result
-        (λ x. (first (record_tests bytes.now k) ≡ None) × IsRecord bytes.now k x)
-        (λ e. first (record_tests bytes.now k) ≡ Some (fault_is e)) }
-{
-    let at = header.list + RECORD_BYTES * k;
-    let number = k as u32 + 1;
-    let category = Category::from_number(bytes[at + RECORD_CATEGORY_AT], number)?;
-    category.check_length(bytes[at + RECORD_LENGTH_AT] as usize, number)?;
-    if bytes[at + RECORD_ZERO_AT] != 0 || bytes[at + RECORD_LAST_AT] != 0 {
-        return Err(Fault::Reserved(number));
+impl<'a> Layout<'a> {
+    /// The layout of these bytes, or the first test of their header that fails.
+    #[tactic(auto, using(crate::proofs::First::fault_by_header, crate::proofs::Lawfulness::unlawful_from_some))]
+    pub(crate) fn new(bytes: &'a [u8]) -> Result<Layout<'a>, Fault>
+        ensures answer { MatchResult result (λ layout. layout.bytes.now ≡ bytes.now)
+            (λ e. fault bytes.now ≡ Some (fault_is e)) }
+        ensures lawful { IfErr result (λ _. Lawful bytes.now → ⊥) }
+    {
+        let length = bytes.len();
+        if length < HEADER_BYTES || MOST_BYTES < length {
+            return Err(Fault::Size);
+        }
+        let header = Header::read(bytes);
+        if header.length != length {
+            return Err(Fault::LengthField);
+        }
+        if MOST_RECORDS < header.count {
+            return Err(Fault::RecordCount);
+        }
+        if header.list < HEADER_BYTES
+            || header.area < header.list + RECORD_BYTES * header.count
+            || length < header.area
+        {
+            return Err(Fault::Offsets);
+        }
+        Ok(Layout { bytes, header })
     }
-    let start = header.area + word_at(bytes, at);
-    let Some(packet) = packet_at(bytes, start, category) else {
-        return Err(Fault::PastEnd(number));
-    };
-    category.check_spare_bits(packet, number)?;
-    Ok(Record::new(category, packet))
+
+    /// How many records there are.
+    pub(crate) fn count(self) -> usize
+        ensures { result ≡ count self.entry.bytes.now }
+    {
+        self.header.count
+    }
+
+    /// Passes a lawful reel, and answers the first test that any other fails.
+    pub(crate) fn check_records(self) -> Result<(), Fault>
+        ensures answer { MatchResult result (λ _. fault self.entry.bytes.now ≡ None)
+            (λ e. fault self.entry.bytes.now ≡ Some (fault_is e)) }
+        ensures lawful { MatchResult result (λ _. Lawful self.entry.bytes.now)
+            (λ _. Lawful self.entry.bytes.now → ⊥) }
+    {
+        for k in 0..self.header.count {
+            self.record(k)?;
+        }
+        Ok(())
+    }
+
+    /// Record `k`, from 0, or the first of its tests that fails.
+    pub(crate) fn record(self, k: usize) -> Result<Record<'a>, Fault>
+        requires { k < count self.bytes.now }
+        ensures { MatchResult result
+            (λ x. (first (record_tests self.entry.bytes.now k) ≡ None) × IsRecord self.entry.bytes.now k x)
+            (λ e. first (record_tests self.entry.bytes.now k) ≡ Some (fault_is e)) }
+    {
+        let bytes = self.bytes;
+        let at = self.header.list + RECORD_BYTES * k;
+        let number = k as u32 + 1;
+        let category = Category::from_number(bytes[at + RECORD_CATEGORY_AT], number)?;
+        category.check_length(bytes[at + RECORD_LENGTH_AT] as usize, number)?;
+        if bytes[at + RECORD_ZERO_AT] != 0 || bytes[at + RECORD_LAST_AT] != 0 {
+            return Err(Fault::Reserved(number));
+        }
+        let start = self.header.area + word_at(bytes, at);
+        let packet = packet_at(bytes, start, category).ok_or(Fault::PastEnd(number))?;
+        category.check_spare_bits(packet, number)?;
+        Ok(Record::new(category, packet))
+    }
 }
 
 /// The packet of this category that starts at an offset, if it ends within the reel.
@@ -85,25 +114,4 @@ fn packet_at(bytes: &[u8], start: usize, category: Category) -> Option<&[u8]>
         return None;
     }
     Some(&bytes[start..start + size])
-}
-
-/// Passes a lawful reel, and answers the first test that any other fails.
-pub(crate) fn check(bytes: &[u8]) -> Result<(), Fault>
-    ensures answer { MatchResult result (λ _. fault bytes.now ≡ None)
-        (λ e. fault bytes.now ≡ Some (fault_is e)) }
-    ensures lawful { MatchResult result (λ _. Lawful bytes.now) (λ _. Lawful bytes.now → ⊥) }
-{
-    run_tests(bytes)
-}
-
-/// Runs the tests of a reel up to the first that fails.
-fn run_tests(bytes: &[u8]) -> Result<(), Fault>
-    ensures { MatchResult result (λ _. fault bytes.now ≡ None)
-        (λ e. fault bytes.now ≡ Some (fault_is e)) }
-{
-    let header = check_header(bytes)?;
-    for k in 0..header.count {
-        read_record(bytes, header, k)?;
-    }
-    Ok(())
 }

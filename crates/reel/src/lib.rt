@@ -8,8 +8,7 @@ ghost use Rattle.reel.specs.Layout.{count};
 ghost use Rattle.reel.specs.Records.{RecordAt};
 ghost use Rattle.reel.specs.Tests.{fault};
 
-use checks::{check, read_record};
-use layout::Header;
+use checks::Layout;
 use service::Fault;
 
 mod checks;
@@ -27,45 +26,56 @@ const EMPTY: [u8; 16] = [0, 0, 0, 0, 16, 0, 0, 0, 16, 0, 0, 0, 16, 0, 0, 0];
 /// A reel that passed its check.
 #[derive(Clone, Copy)]
 pub struct Reel<'a> {
-    bytes: &'a [u8],
-    ghost lawful: { is_some (fault bytes.now) ≡ false },
+    layout: Layout<'a>,
+    ghost lawful: { is_some (fault layout.bytes.now) ≡ false },
 }
 
 impl<'a> Reel<'a> {
+    /// The reel of these bytes, or the first test that they fail.
+    pub fn new(bytes: &'a [u8]) -> Result<Reel<'a>, Fault>
+        ensures answer { MatchResult result
+            (λ reel. (fault bytes.now ≡ None) × (reel.layout.bytes.now ≡ bytes.now))
+            (λ e. fault bytes.now ≡ Some (fault_is e)) }
+        ensures lawful { MatchResult result (λ _. Lawful bytes.now) (λ _. Lawful bytes.now → ⊥) }
+    {
+        let layout = Layout::new(bytes)?;
+        layout.check_records()?;
+        Ok(Reel { layout })
+    }
+
     /// A reel with no records, to load another into.
     pub fn empty() -> Reel<'a>
-        ensures { count result.bytes.now ≡ 0 }
+        ensures { count result.layout.bytes.now ≡ 0 }
     {
-        Reel { bytes: &EMPTY }
+        Reel::new(&EMPTY).unwrap()
     }
 
     /// Checks the bytes of a reel. A lawful reel takes the place of this one; at a fault nothing is altered.
     pub fn load(&mut self, bytes: &'a [u8]) -> Result<(), Fault>
         ensures answer { MatchResult result
-            (λ _. (fault bytes.now ≡ None) × (self.new.bytes.now ≡ bytes.now))
+            (λ _. (fault bytes.now ≡ None) × (self.new.layout.bytes.now ≡ bytes.now))
             (λ e. (fault bytes.now ≡ Some (fault_is e)) × (self.new ≡ self.old)) }
         ensures lawful { MatchResult result (λ _. Lawful bytes.now) (λ _. Lawful bytes.now → ⊥) }
     {
-        check(bytes)?;
-        *self = Reel { bytes };
+        *self = Reel::new(bytes)?;
         Ok(())
     }
 
     /// How many records there are.
     pub fn record_count(&self) -> usize
-        ensures { result ≡ count self.now.bytes.now }
+        ensures { result ≡ count self.now.layout.bytes.now }
     {
-        Header::read(self.bytes).count
+        self.layout.count()
     }
 
     /// Record `k`, from 0; none if there are not so many.
+    #[tactic(auto, using(crate::proofs::First::record_passes))]
     pub fn record(&self, k: usize) -> Option<Record<'a>>
-        ensures { RecordAt self.now.bytes.now k result }
+        ensures { RecordAt self.now.layout.bytes.now k result }
     {
-        let header = Header::read(self.bytes);
-        if header.count <= k {
+        if self.layout.count() <= k {
             return None;
         }
-        read_record(self.bytes, header, k).ok()
+        self.layout.record(k).ok()
     }
 }
