@@ -1,7 +1,8 @@
 //! A reel of recorded frames: its check, and the records of a reel that passed.
 #![tactic(auto)]
 
-ghost use Rattle.std.specs.Prelude.{◌≡◌, false, is_some, Some, None, MatchResult};
+ghost use Rattle.std.specs.Prelude.{◌≡◌, ◌+◌, ◌-◌, false, is_some, Some, None, MatchOption, MatchResult};
+ghost use Rattle.std.specs.Iterator.{at_most};
 ghost use Rattle.service.specs.Refusals.{fault_is};
 ghost use Rattle.reel.specs.Lawful.{Lawful};
 ghost use Rattle.reel.specs.Layout.{count};
@@ -77,5 +78,34 @@ impl<'a> Reel<'a> {
             return None;
         }
         self.layout.record(k).ok()
+    }
+
+    /// The records, the first of the list first.
+    pub fn iter(&self) -> Iter<'a>
+        ensures { (result.reel ≡ self.now) × (result.at ≡ 0) }
+    {
+        Iter { reel: *self, at: 0 }
+    }
+}
+
+/// The records of a reel that are left.
+#[derive(Clone, Copy)]
+pub struct Iter<'a> {
+    reel: Reel<'a>,
+    at: usize,
+}
+
+impl<'a> Iterator for Iter<'a> {
+    type Item = Record<'a>;
+
+    ghost next_gives = { λ old item new. (new.reel ≡ old.reel) × RecordAt old.reel.layout.bytes.now old.at item
+        × MatchOption item (new.at ≡ old.at) (λ _. new.at ≡ old.at + 1) };
+
+    ghost remaining = { λ iter. at_most (count iter.reel.layout.bytes.now - iter.at) };
+
+    fn next(&mut self) -> Option<Record<'a>> {
+        let record = self.reel.record(self.at)?;
+        self.at += 1;
+        Some(record)
     }
 }
