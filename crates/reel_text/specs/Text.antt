@@ -1,23 +1,13 @@
 -- The text of a checked reel, byte by byte: a line for each record and a verdict. Assumes nothing.
 use Rattle.std.specs.Prelude.{ℕ, zero, suc, ◌/◌, ◌%◌, false, List, [], ◌∷◌, ◌++◌, Some, None, Ok, Err, codes, decimal, Option, Result}
 use Rattle.std.specs.Fmt.{digit_glyph}
-use Rattle.service.specs.declared.categories.Category.{Category}
-use Rattle.service.specs.declared.categories.Category.TheVariants.{Blank, Eighth, Quarter, Half, Full, Suspect, Erasure}
+use Rattle.std.specs.List.{flat_map}
 use Rattle.service.specs.declared.refusals.Fault.{Fault}
 use Rattle.service.specs.Refusals.{Answer, fault_is}
+use Rattle.service.specs.Texts.{category_text, refused_text}
 use Rattle.reel.specs.Layout.{count, category_at, packet_of}
 use Rattle.reel.specs.Records.{RecordValues, record_of}
 use Rattle.reel.specs.Tests.{fault}
-
--- what a record is, in words
-abbrev pub category_text : Category → List ℕ
-category_text Blank = codes "blank"
-category_text Eighth = codes "Rate 1/8"
-category_text Quarter = codes "Rate 1/4"
-category_text Half = codes "Rate 1/2"
-category_text Full = codes "Rate 1"
-category_text Suspect = codes "suspect Rate 1"
-category_text Erasure = codes "erasure"
 
 -- a digit below 16, in lower case
 abbrev pub hex_digit : ℕ → ℕ
@@ -28,8 +18,7 @@ hex_byte b = hex_digit (b / 16) ∷ hex_digit (b % 16) ∷ []
 
 -- two digits for each byte
 abbrev pub hex_text : List ℕ → List ℕ
-hex_text [] = []
-hex_text (b ∷ bs) = hex_byte b ++ hex_text bs
+hex_text bs = flat_map hex_byte bs
 
 -- a hyphen stands for no bytes
 abbrev pub bytes_text : List ℕ → List ℕ
@@ -39,14 +28,6 @@ bytes_text (b ∷ bs) = hex_text (b ∷ bs)
 -- number;what it is;its bytes
 abbrev pub record_text : ℕ → RecordValues → List ℕ
 record_text n v = decimal n ++ (codes ";" ++ (category_text v.category ++ (codes ";" ++ bytes_text v.bytes)))
-
--- a number, and a place after a space if there is one
-abbrev pub refused_by : ℕ → Option ℕ → List ℕ
-refused_by n None = codes "refused " ++ decimal n
-refused_by n (Some p) = codes "refused " ++ (decimal n ++ (codes " " ++ decimal p))
-
-abbrev pub refused_text : Answer → List ℕ
-refused_text a = refused_by a.number a.place
 
 -- the answer of a check: a reel with no fault is lawful
 abbrev pub answer_text : Option Answer → List ℕ

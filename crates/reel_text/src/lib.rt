@@ -1,28 +1,30 @@
 //! The text of a reel: a line for each record, and a verdict.
 #![tactic(auto)]
 
-ghost use Rattle.std.specs.Prelude.{◌≡◌, ◌<◌, ◌++◌, IfOk, string_bytes, codes, decimal, OnOk};
+ghost use Rattle.std.specs.Prelude.{◌≡◌, ◌++◌, IfOk, OnOk, Some, string_bytes, codes};
 ghost use Rattle.reel.specs.Layout.{count};
 ghost use Rattle.reel.specs.Records.{record_is};
 ghost use Rattle.reel.specs.Tests.{fault};
 ghost use Rattle.service.specs.Refusals.{fault_is};
-ghost use Rattle.reel_text.specs.Text.{answer_text, refused_text, bytes_text, category_text, record_lines, hex_byte, hex_digit, hex_text, record_text, reel_text, verdict_text};
+ghost use Rattle.service.specs.Texts.{refused_text};
+ghost use Rattle.reel_text.specs.Text.{answer_text, bytes_text, hex_byte, record_text, record_lines, reel_text, verdict_text};
 
 use reel::{Record, Reel};
-use service::{Category, Fault};
+use service::Fault;
 use std::alloc::{AllocError, Global};
+use std::fmt;
 
 /// The whole text of a reel: a line for each record and the verdict, or the refusal alone.
 pub fn listing(heap: Global, bytes: &[u8]) -> Result<String, AllocError>
     ensures { IfOk result (λ s. string_bytes s ≡ reel_text bytes.now) }
 {
-    let mut reel = Reel::empty();
-    let (mut text, verdict) = match reel.load(bytes) {
-        Ok(()) => (record_lines(heap, &reel)?, Ok(reel.record_count())),
-        Err(fault) => (String::new(heap), Err(fault)),
+    let reel = match Reel::new(bytes) {
+        Ok(reel) => reel,
+        Err(fault) => return format!(in heap; "{fault}\n"),
     };
-    let line = verdict_text(heap, verdict)?;
-    push_line(&mut text, line.as_str())?;
+    let mut text = record_lines(heap, &reel)?;
+    let count = reel.record_count();
+    writeln!(text, "ok {count}")?;
     Ok(text)
 }
 
@@ -30,9 +32,8 @@ pub fn listing(heap: Global, bytes: &[u8]) -> Result<String, AllocError>
 pub fn record_text(heap: Global, number: usize, item: Record<'_>) -> Result<String, AllocError>
     ensures { IfOk result (λ s. string_bytes s ≡ record_text number (record_is item.entry)) }
 {
-    let name = record_name(item);
-    let bytes = record_bytes(heap, item)?;
-    row(heap, number, name, bytes.as_str())
+    let row = Row { number, item };
+    format!(in heap; "{row}")
 }
 
 /// The text of the verdict on a reel: how many records it has, or its fault.
@@ -49,9 +50,8 @@ pub fn verdict_text(heap: Global, verdict: Result<usize, Fault>) -> Result<Strin
 pub fn answer_text(heap: Global, bytes: &[u8]) -> Result<String, AllocError>
     ensures { IfOk result (λ s. string_bytes s ≡ answer_text (fault bytes.now)) }
 {
-    let mut reel = Reel::empty();
-    match reel.load(bytes) {
-        Ok(()) => String::from_str(heap, "ok"),
+    match Reel::new(bytes) {
+        Ok(_) => String::from_str(heap, "ok"),
         Err(fault) => refused_text(heap, fault),
     }
 }
@@ -60,115 +60,76 @@ pub fn answer_text(heap: Global, bytes: &[u8]) -> Result<String, AllocError>
 pub fn refused_text(heap: Global, fault: Fault) -> Result<String, AllocError>
     ensures { IfOk result (λ s. string_bytes s ≡ refused_text (fault_is fault)) }
 {
-    let number = fault.number();
-    match fault.place() {
-        Some(place) => format!(in heap; "refused {number} {place}"),
-        None => format!(in heap; "refused {number}"),
-    }
+    format!(in heap; "{fault}")
 }
 
 /// The lines of all records.
+#[tactic(auto, using(crate::proofs::Lines::lines_none, crate::proofs::Lines::lines_more))]
 fn record_lines(heap: Global, reel: &Reel<'_>) -> Result<String, AllocError>
     ensures { IfOk result (λ s. string_bytes s
-        ≡ record_lines reel.now.bytes.now (count reel.now.bytes.now)) }
+        ≡ record_lines reel.now.layout.bytes.now (count reel.now.layout.bytes.now)) }
 {
     let mut text = String::new(heap);
-    for k in 0..reel.record_count() {
-        if let Some(item) = reel.record(k) {
-            push_record(heap, &mut text, k + 1, item)?;
-        }
+    for (k, item) in reel.iter().enumerate() {
+        let row = Row {
+            number: k + 1,
+            item,
+        };
+        writeln!(text, "{row}")?;
     }
     Ok(text)
 }
 
-/// Adds the line of a record.
-fn push_record(
-    heap: Global,
-    text: &mut String,
+/// A record under its number.
+#[derive(Clone, Copy)]
+struct Row<'a> {
     number: usize,
-    item: Record<'_>,
-) -> Result<(), AllocError>
-    ensures { OnOk result (string_bytes text.new
-        ≡ string_bytes text.old ++ (record_text number (record_is item.entry) ++ codes "\n")) }
-{
-    let line = record_text(heap, number, item)?;
-    push_line(text, line.as_str())
+    item: Record<'a>,
 }
 
-/// Adds a text and a line feed.
-fn push_line(text: &mut String, line: &str) -> Result<(), AllocError>
-    ensures { OnOk result (string_bytes text.new ≡ string_bytes text.old ++ (line.now ++ codes "\n")) }
-{
-    text.push_str(line)?;
-    text.push_str("\n")?;
-    Ok(())
-}
+impl fmt::Display for Row<'_> {
+    ghost output = { λ row. Some (record_text row.number (record_is row.item)) };
 
-/// Three columns with semicolons between them.
-fn row(heap: Global, number: usize, name: &str, bytes: &str) -> Result<String, AllocError>
-    ensures { IfOk result (λ s. string_bytes s
-        ≡ decimal number ++ (codes ";" ++ (name.now ++ (codes ";" ++ bytes.now)))) }
-{
-    format!(in heap; "{number};{name};{bytes}")
-}
-
-/// What a record is, in words.
-fn record_name(item: Record<'_>) -> &'static str
-    ensures { result.now ≡ category_text (record_is item.entry).category }
-{
-    match item.category() {
-        Category::Blank => "blank",
-        Category::Eighth => "Rate 1/8",
-        Category::Quarter => "Rate 1/4",
-        Category::Half => "Rate 1/2",
-        Category::Full => "Rate 1",
-        Category::Suspect => "suspect Rate 1",
-        Category::Erasure => "erasure",
+    /// Writes three columns with semicolons between them.
+    fn fmt<W: fmt::Write>(&self, f: &mut fmt::Formatter<W>) -> fmt::Result {
+        let number = self.number;
+        let category = self.item.category();
+        let bytes = Packet(self.item.bytes());
+        write!(f, "{number};{category};{bytes}")
     }
 }
 
-/// The bytes of a record in hexadecimal, or a hyphen for none.
-fn record_bytes(heap: Global, item: Record<'_>) -> Result<String, AllocError>
-    ensures { IfOk result (λ s. string_bytes s ≡ bytes_text (record_is item.entry).bytes) }
-{
-    let bytes = item.bytes();
-    if bytes.is_empty() {
-        String::from_str(heap, "-")
-    } else {
-        hex(heap, bytes)
+/// The bytes of a packet.
+#[derive(Clone, Copy)]
+struct Packet<'a>(&'a [u8]);
+
+impl fmt::Display for Packet<'_> {
+    ghost output = { λ packet. Some (bytes_text packet.0.now) };
+
+    /// Writes two hexadecimal digits for each byte, or a hyphen for none.
+    fn fmt<W: fmt::Write>(&self, f: &mut fmt::Formatter<W>) -> fmt::Result {
+        if self.0.is_empty() {
+            return f.write_str("-");
+        }
+        for &byte in self.0 {
+            Hex(byte).fmt(f)?;
+        }
+        Ok(())
     }
 }
 
-/// Two hexadecimal digits for each byte.
-fn hex(heap: Global, bytes: &[u8]) -> Result<String, AllocError>
-    ensures { IfOk result (λ s. string_bytes s ≡ hex_text bytes.now) }
-{
-    let mut text = String::new(heap);
-    for byte in bytes {
-        push_hex(&mut text, *byte)?;
-    }
-    Ok(text)
-}
+/// A byte in hexadecimal.
+#[derive(Clone, Copy)]
+struct Hex(u8);
 
-/// Adds the two hexadecimal digits of a byte.
-fn push_hex(text: &mut String, byte: u8) -> Result<(), AllocError>
-    ensures { OnOk result (string_bytes text.new ≡ string_bytes text.old ++ hex_byte byte) }
-{
-    text.push(hex_digit(byte / 16))?;
-    text.push(hex_digit(byte % 16))?;
-    Ok(())
-}
+impl fmt::Display for Hex {
+    ghost output = { λ hex. Some (hex_byte hex.0) };
 
-/// The hexadecimal digit of a number below 16.
-fn hex_digit(value: u8) -> char
-    requires { value < 16 }
-    ensures digit { result ≡ hex_digit value }
-    ensures ascii { result < 128 }
-{
-    if value < 10 {
-        char::from(b'0' + value)
-    } else {
-        char::from(b'a' + (value - 10))
+    /// Writes two digits.
+    #[tactic(auto, using(std::proofs::lemmas::Fmt::hex_byte))]
+    fn fmt<W: fmt::Write>(&self, f: &mut fmt::Formatter<W>) -> fmt::Result {
+        let byte = self.0;
+        write!(f, "{byte:02x}")
     }
 }
 
