@@ -18,13 +18,12 @@ use std::fmt;
 pub fn listing(heap: Global, bytes: &[u8]) -> Result<String, AllocError>
     ensures { IfOk result (λ s. string_bytes s ≡ reel_text bytes.now) }
 {
-    let reel = match Reel::new(bytes) {
-        Ok(reel) => reel,
-        Err(fault) => return format!(in heap; "{fault}\n"),
+    let (mut text, verdict) = match Reel::new(bytes) {
+        Ok(reel) => (record_lines(heap, &reel)?, Ok(reel.record_count())),
+        Err(fault) => (String::new(heap), Err(fault)),
     };
-    let mut text = record_lines(heap, &reel)?;
-    let count = reel.record_count();
-    writeln!(text, "ok {count}")?;
+    let verdict = verdict_text(heap, verdict)?;
+    writeln!(text, "{verdict}")?;
     Ok(text)
 }
 
