@@ -6,8 +6,9 @@ ghost use Rattle.service.specs.Rates.{rate_is};
 ghost use Rattle.lsp.specs.Quantizers.{values};
 ghost use Rattle.lsp_values.specs.Text.{row_text};
 
-use anyhow::anyhow;
+use anyhow::ensure;
 use lsp::{LspCodes, top_code};
+use program::exit_code;
 use service::Rate;
 use std::alloc::{AllocError, Global};
 use std::env;
@@ -24,22 +25,17 @@ and the value in grains, of which the sampling frequency has 10,813,440,000.";
 const HEADER: &str = "rate;code;LSP1";
 
 fn main(rt: HostRuntime) -> ExitCode {
-    match run(&rt) {
-        Ok(()) => ExitCode::SUCCESS,
-        Err(e) => {
-            let _ = eprintln!(rt; "lsp_values: {e}");
-            ExitCode::FAILURE
-        }
-    }
+    exit_code(&rt, "lsp_values", run(&rt))
 }
 
 fn run(rt: &HostRuntime) -> anyhow::Result<()> {
     if let Some(word) = env::args(rt)?.nth(1) {
-        if word.as_str() == "--help" {
-            println!(rt; "{HELP}")?;
-            return Ok(());
-        }
-        return Err(anyhow!("it takes no arguments but --help"));
+        ensure!(
+            word.as_str() == "--help",
+            "it takes no arguments but --help"
+        );
+        println!(rt; "{HELP}")?;
+        return Ok(());
     }
     println!(rt; "{HEADER}")?;
     for rate in [Rate::Full, Rate::Half, Rate::Quarter, Rate::Eighth] {
@@ -51,9 +47,7 @@ fn run(rt: &HostRuntime) -> anyhow::Result<()> {
 /// Prints the rows of one rate.
 fn print_rate(rt: &HostRuntime, rate: Rate) -> anyhow::Result<()> {
     for code in 0..=top_code(rate) {
-        let Ok(codes) = LspCodes::new(rate, [code; 10]) else {
-            return Err(anyhow!("a code is above the top code of its rate"));
-        };
+        let codes = LspCodes::new(rate, [code; 10])?;
         let row = row(rt.alloc(), codes)?;
         println!(rt; "{row}")?;
     }
@@ -65,7 +59,7 @@ fn row(heap: Global, codes: LspCodes) -> Result<String, AllocError>
     ensures { IfOk result (λ s. string_bytes s
         ≡ row_text (rate_is codes.rate).number (slice_index codes.codes 0) (slice_index_or (values codes.rate codes.codes) 0 (pos 0))) }
 {
-    let rate = codes.rate().number();
+    let rate = u8::from(codes.rate());
     let code = codes.codes()[0];
     let value = codes.values()[0];
     format!(in heap; "{rate};{code};{value}")

@@ -1,15 +1,17 @@
 //! Checks the reel on standard input, and prints its records and the verdict on standard output.
 #![tactic(auto)]
 
-ghost use Rattle.std.specs.Prelude.{◌≤◌, length, IfOk};
+ghost use Rattle.std.specs.Prelude.{◌≡◌, take, IfOk, IfSome};
 
-use anyhow::anyhow;
+use anyhow::{Context, ensure};
+use program::exit_code;
+use std::alloc::Global;
 use std::io::Read;
 use std::process::ExitCode;
 use std::{env, io};
 
 /// One byte more than the longest reel: an input that fills it is refused, and not read to its end.
-const MOST_INPUT: usize = reel::MOST_BYTES + 1;
+const MOST_INPUT: u64 = reel::MOST_BYTES as u64 + 1;
 
 const HELP: &str = "\
 Usage: reel_check < REEL
@@ -26,49 +28,29 @@ Either way the status is 0. It is 1, with a sentence on standard error, if the i
 be read, the output cannot be written, a word other than --help is given, or memory runs out.";
 
 fn main(rt: HostRuntime) -> ExitCode {
-    match run(&rt) {
-        Ok(()) => ExitCode::SUCCESS,
-        Err(e) => {
-            let _ = eprintln!(rt; "reel_check: {e}");
-            ExitCode::FAILURE
-        }
-    }
+    exit_code(&rt, "reel_check", run(&rt))
 }
 
 fn run(rt: &HostRuntime) -> anyhow::Result<()> {
     if let Some(word) = env::args(rt)?.nth(1) {
-        if word.as_str() == "--help" {
-            println!(rt; "{HELP}")?;
-            return Ok(());
-        }
-        return Err(anyhow!(
+        ensure!(
+            word.as_str() == "--help",
             "it takes no arguments but --help, and reads the reel from standard input"
-        ));
+        );
+        println!(rt; "{HELP}")?;
+        return Ok(());
     }
-    let mut input = vec![in rt.alloc(); 0u8; MOST_INPUT]?;
-    let length = match read_reel(rt, &mut input) {
-        Ok(length) => length,
-        Err(e) => return Err(anyhow!(format!(in rt.alloc();
-            "standard input cannot be read: {e}"
-        )?)),
-    };
-    let text = reel_text::listing(rt.alloc(), &input[0..length])?;
+    let input = read_reel(rt.alloc(), rt.stdin()).context("standard input cannot be read")?;
+    let text = reel_text::listing(rt.alloc(), &input)?;
     rt.print(text)?;
     Ok(())
 }
 
-/// Reads until the input ends or the buffer is full, and answers how much was read.
-fn read_reel(rt: &HostRuntime, buffer: &mut [u8]) -> io::Result<usize>
-    ensures { IfOk result (λ n. n ≤ length buffer.new) }
+/// The bytes of an input, up to the most that are looked at.
+fn read_reel<R: Read + Drop>(heap: Global, input: R) -> io::Result<Vec<u8>>
+    ensures { IfOk result (λ bytes. IfSome (R.remaining input) (λ all. bytes.items ≡ take MOST_INPUT all)) }
 {
-    let mut stdin = rt.stdin();
-    let mut filled = 0;
-    while filled < buffer.len() {
-        let got = stdin.read(&mut buffer[filled..])?;
-        if got == 0 {
-            break;
-        }
-        filled += got;
-    }
-    Ok(filled)
+    let mut bytes = Vec::new(heap);
+    input.take(MOST_INPUT).read_to_end(&mut bytes)?;
+    Ok(bytes)
 }

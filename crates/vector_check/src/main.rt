@@ -6,10 +6,11 @@ ghost use Rattle.reel.specs.Tests.{fault};
 ghost use Rattle.reel_text.specs.Text.{answer_text};
 ghost use Rattle.vector_check.specs.Tallies.{Counted};
 
-use anyhow::anyhow;
+use anyhow::{Context, bail, ensure};
+use program::exit_code;
 use std::alloc::{AllocError, Global};
 use std::process::ExitCode;
-use std::{env, fs, io};
+use std::{env, fs};
 
 const HELP: &str = "\
 Usage: vector_check FOLDER
@@ -20,22 +21,13 @@ with a sentence on standard error, if any differs, a file cannot be read, a line
 answer, there is nothing to compare, or it is not given one folder.";
 
 /// How many cases of a file were compared, and how many of them differ.
-#[derive(Clone, Copy)]
+#[derive(Clone, Copy, Default)]
 struct Tally {
     compared: usize,
     differ: usize,
 }
 
 impl Tally {
-    fn new() -> Tally
-        ensures { (result.compared ≡ 0) × (result.differ ≡ 0) }
-    {
-        Tally {
-            compared: 0,
-            differ: 0,
-        }
-    }
-
     /// Counts one more case. Counts that are full stay full.
     fn count(&mut self, same: bool)
         ensures { Counted self.old same self.new }
@@ -48,46 +40,34 @@ impl Tally {
 }
 
 fn main(rt: HostRuntime) -> ExitCode {
-    match run(&rt) {
-        Ok(()) => ExitCode::SUCCESS,
-        Err(e) => {
-            let _ = eprintln!(rt; "vector_check: {e}");
-            ExitCode::FAILURE
-        }
-    }
+    exit_code(&rt, "vector_check", run(&rt))
 }
 
 fn run(rt: &HostRuntime) -> anyhow::Result<()> {
     let mut words = env::args(rt)?.skip(1);
     let (Some(folder), None) = (words.next(), words.next()) else {
-        return Err(anyhow!("it takes one folder of vectors (--help says more)"));
+        bail!("it takes one folder of vectors (--help says more)");
     };
     if folder.as_str() == "--help" {
         println!(rt; "{HELP}")?;
         return Ok(());
     }
-    let reels = compare_reels(rt, folder.as_str())?;
-    let Tally { compared, differ } = reels;
+    let Tally { compared, differ } = compare_reels(rt, folder.as_str())?;
     println!(rt; "reel-check: {compared} compared, {differ} differ")?;
-    if compared == 0 {
-        return Err(anyhow!("there was nothing to compare"));
-    }
-    if differ > 0 {
-        return Err(anyhow!("some answers differ"));
-    }
+    ensure!(compared > 0, "there was nothing to compare");
+    ensure!(differ == 0, "some answers differ");
     Ok(())
 }
 
 /// The answers of the check, by the cases of `reel-check.txt`: a reel's name, a space and the answer.
 fn compare_reels(rt: &HostRuntime, folder: &str) -> anyhow::Result<Tally> {
     let cases = read_cases(rt, folder, "reel-check.txt")?;
-    let mut tally = Tally::new();
+    let mut tally = Tally::default();
     for case in cases.as_str().lines() {
-        let Some((name, expected)) = case.split_once(' ') else {
-            return Err(anyhow!("reel-check.txt has a line without an answer"));
-        };
-        let same = compare_reel(rt, folder, name, expected)?;
-        tally.count(same);
+        let (name, expected) = case
+            .split_once(' ')
+            .context("reel-check.txt has a line without an answer")?;
+        tally.count(compare_reel(rt, folder, name, expected)?);
     }
     Ok(tally)
 }
@@ -101,17 +81,12 @@ fn compare_reel(
 ) -> anyhow::Result<bool> {
     let heap = rt.alloc();
     let path = format!(in heap; "{folder}/{name}.reel")?;
-    let bytes = match fs::read(rt, path.as_str()) {
-        Ok(bytes) => bytes,
-        Err(e) => return Err(unreadable(heap, path.as_str(), e)),
+    let bytes = fs::read(rt, path.as_str()).context(format_args!("cannot read {path}"))?;
+    let Some(answer) = difference(heap, &bytes, expected)? else {
+        return Ok(true);
     };
-    match difference(heap, &bytes, expected)? {
-        None => Ok(true),
-        Some(answer) => {
-            name_difference(rt, name, expected, answer.as_str())?;
-            Ok(false)
-        }
-    }
+    println!(rt; "reel-check {name}: expected '{expected}', answered '{answer}'")?;
+    Ok(false)
 }
 
 /// What the check of a reel answers, if that is not what is expected.
@@ -127,24 +102,9 @@ fn difference(heap: Global, bytes: &[u8], expected: &str) -> Result<Option<Strin
     }
 }
 
-fn name_difference(rt: &HostRuntime, name: &str, expected: &str, answer: &str) -> io::Result<()> {
-    println!(rt; "reel-check {name}: expected '{expected}', answered '{answer}'")
-}
-
 /// The text of a file of cases.
 fn read_cases(rt: &HostRuntime, folder: &str, file: &str) -> anyhow::Result<String> {
     let heap = rt.alloc();
     let path = format!(in heap; "{folder}/{file}")?;
-    match fs::read_to_string(rt, path.as_str()) {
-        Ok(text) => Ok(text),
-        Err(e) => Err(unreadable(heap, path.as_str(), e)),
-    }
-}
-
-/// The sentence for a file that cannot be read.
-fn unreadable(heap: Global, path: &str, cause: io::Error) -> anyhow::Error {
-    match format!(in heap; "cannot read {path}: {cause}") {
-        Ok(sentence) => anyhow!(sentence),
-        Err(e) => e.into(),
-    }
+    fs::read_to_string(rt, path.as_str()).context(format_args!("cannot read {path}"))
 }
