@@ -6,25 +6,10 @@ use Rattle.reel.specs.Lawful.{LawfulHeader, LawfulRecord, Lawful}
 use Rattle.reel.proofs.First.{no_fault, header_passes, record_passes}
 
 header_lawful : (bs : List ℕ) → first (header_tests bs) ≡ None → LawfulHeader bs
-header_lawful bs h = record {
-  shortest = search rules;
-  longest = search rules;
-  field = search rules;
-  few = search rules;
-  list = search rules;
-  area = search rules;
-  end = search rules;
-}
+header_lawful bs h = search rules
 
 record_lawful : (bs : List ℕ) (k : ℕ) → first (record_tests bs k) ≡ None → LawfulRecord bs k
-record_lawful bs k h = record {
-  category = search rules;
-  size = search rules;
-  zero = search rules;
-  last = search rules;
-  within = search rules;
-  spare = search rules;
-}
+record_lawful bs k h = search rules
 
 lawful_header : (bs : List ℕ) → LawfulHeader bs → first (header_tests bs) ≡ None
 lawful_header bs l = search rules

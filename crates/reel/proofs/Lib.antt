@@ -1,3 +1,2 @@
 pub mod First
-pub mod Reading
 pub mod Lawfulness

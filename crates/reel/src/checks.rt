@@ -108,10 +108,7 @@ fn packet_at(bytes: &[u8], start: usize, category: Category) -> Option<&[u8]>
 {
     let size = category.packet_bytes();
     if size == 0 {
-        return Some(&bytes[0..0]);
+        return Some(&[]);
     }
-    if bytes.len() < start + size {
-        return None;
-    }
-    Some(&bytes[start..start + size])
+    bytes.get(start..start + size)
 }
