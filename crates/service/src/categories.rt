@@ -37,6 +37,7 @@ const SPARE_VALUES: u8 = 1 << 5;
 
 impl Category {
     /// The category of this number, or fault 5 at this place.
+    // Not TryFrom: the fault names the place, for which a conversion of the number alone has no room.
     pub fn from_number(number: u8, place: u32) -> Result<Category, Fault>
         ensures { MatchResult result
             (λ category. (unknown_category number ≡ false) × ((category_is category).number ≡ number))
