@@ -5,12 +5,13 @@ use lib.Arith.{bin_ind}
 use lib.Bits.{bit_and, bit_xor, xor_comm, xor_self, xor_shr, xor_mod, xor_lt, xor_shifted, xor_add_and, and_shr, and_mod}
 use lib.Count.{ones, ones_step, ones_cat}
 use lib.Pow.{pow-lt}
+use Rattle.std.proofs.lemmas.Nat.{zero_from_ones}
 use Rattle.std.proofs.lemmas.Bool.{cases_lt}
 use Rattle.cyclic.specs.Polynomials.{rem}
 use Rattle.cyclic.specs.Words.{codeword, sent, cyclic_bits, message, syndrome, parity, corrected, differing, Points, PlainRule, SuspectRule}
 use Rattle.cyclic.specs.Laws.{FourChanges}
 use Rattle.cyclic.proofs.Linear.{xor_back, xor_none, rem-xor, rem_lt, rem_low}
-use Rattle.cyclic.proofs.Distance.{distance, ones_none}
+use Rattle.cyclic.proofs.Distance.{distance}
 
 -- ---- how many bits are set
 
@@ -47,7 +48,7 @@ ones_one =
           let t = e.1 in
           let u = pow-suc 2 e.0 in
           (suc e.0, omega arith)
-      | inr g ↦ let z : w / 2 ≡ 0 = ones_none (w / 2) (omega arith) in (0, omega arith)
+      | inr g ↦ let z : w / 2 ≡ 0 = zero_from_ones (w / 2) (omega arith) in (0, omega arith)
     ])
 
 -- ---- the codeword
@@ -141,7 +142,7 @@ module _ (a w : ℕ) (la : a < 2 ^ 18) (lw : w < 2 ^ 29) where
   unfolding rem
   some_changed z = elim (cases_lt 0 (ones changed)) [
     | inl l ↦ l
-    | inr g ↦ absurd (z (syndrome_is ∙ ap rem (ones_none changed g)))
+    | inr g ↦ absurd (z (syndrome_is ∙ ap rem (zero_from_ones changed (omega arith))))
   ]
 
   suspect_read : (r : Option ℕ) → SuspectRule w r → differing (sent a) w ≤ 1 → r ≡ Some a

@@ -4,6 +4,7 @@ use Rattle.std.proofs.Common.{◌≡◌, ℕ, zero, suc, ◌*◌, ◌/◌, ◌%�
 use lib.Arith.{bin_ind}
 use lib.Bits.{bit_xor, xor_assoc, xor_comm, xor_zero_r}
 use lib.Count.{ones, ones_step}
+use Rattle.std.proofs.lemmas.Nat.{zero_from_ones}
 use Rattle.std.proofs.lemmas.Bool.{cases_lt, eq-eqb, and_parts, true≢false}
 use Rattle.cyclic.specs.Polynomials.{reduced, shift_in, rem}
 use Rattle.cyclic.proofs.Linear.{rem_step, shift_in-xor, reduced_low}
@@ -38,11 +39,6 @@ summed (c ∷ cs) w = bit_xor (w % 2 * c) (summed cs (w / 2))
 odd_or_even : (w : ℕ) → (w % 2 ≡ 0) ⊎ (w % 2 ≡ 1)
 odd_or_even w = elim (cases_lt (w % 2) 1) [ inl l ↦ inl (omega arith) | inr g ↦ inr (omega arith) ]
 
-pub ones_none : (w : ℕ) → ones w ≤ 0 → w ≡ 0
-ones_none =
-    bin_ind (λ (w : ℕ). ones w ≤ 0 → w ≡ 0) (λ h. refl)
-    (λ w ih h. let e = ones_step w in let z : w / 2 ≡ 0 = ih (omega arith) in omega arith)
-
 summed_none : (cs : List ℕ) → summed cs 0 ≡ 0
 summed_none [] = refl
 summed_none (c ∷ cs) = ap₂ bit_xor (zero-mul c) (summed_none cs)
@@ -62,7 +58,7 @@ not_zero a t e = true≢false (sym t ∙ ap not (eq-eqb a 0 e))
 misses_none : (cs : List ℕ) (k a w : ℕ) → misses cs k a ≡ true → w < 2 ^ length cs → ones w ≤ k → bit_xor a (summed cs w) ≡ 0 → ⊥
 misses_none [] k a w t l o e = not_zero a t (sym (xor_zero_r a) ∙ e)
 misses_none (c ∷ cs) zero a w t l o e =
-    not_zero a t (sym (xor_zero_r a) ∙ ap (bit_xor a) (sym (ap (summed (c ∷ cs)) (ones_none w o) ∙ summed_none (c ∷ cs))) ∙ e)
+    not_zero a t (sym (xor_zero_r a) ∙ ap (bit_xor a) (sym (ap (summed (c ∷ cs)) (zero_from_ones w (omega arith)) ∙ summed_none (c ∷ cs))) ∙ e)
 misses_none (c ∷ cs) (suc k) a w t l o e =
     let p = and_parts (misses cs (suc k) a) (misses cs k (bit_xor a c)) t in
     let s = ones_step w in

@@ -83,14 +83,6 @@ rem_down w i h =
     let e : i - 1 + 1 ≡ i = omega arith in
     ap₂ shift_in (ap rem (sym (shr-shr w (i - 1) 1 ∙ ap (λ (k : ℕ). w / 2 ^ k) e))) (and_mask n 1) ∙ sym (rem_step n)
 
--- the next power of x
-pub rem_next : (p : ℕ) → rem (2 ^ (p + 1)) ≡ shift_in (rem (2 ^ p)) 0
-rem_next p =
-    let d : 2 ^ (p + 1) ≡ 2 ^ p * 2 = ap (λ (n : ℕ). 2 ^ n) (add-one p) ∙ pow-suc 2 p in
-    let half : 2 ^ p * 2 / 2 ≡ 2 ^ p = omega arith in
-    let even : 2 ^ p * 2 % 2 ≡ 0 = omega arith in
-    ap rem d ∙ rem_step (2 ^ p * 2) ∙ ap₂ shift_in (ap rem half) even
-
 -- ---- the size of a remainder
 
 pub reduced_low : (x : ℕ) → x < 1024 → reduced x ≡ x
@@ -118,6 +110,9 @@ reduced_lt x h = elim (cases_lt x 1024) [
       (subst (λ (n : ℕ). n < 1024) (sym (reduced_high (x - 1024) (omega arith)))
       (xor_lt 10 (x - 1024) 873 (omega arith) (lit< tt)))
 ]
+
+pub minus_generator_lt : (x : ℕ) → 1024 ≤ x → x < 2048 → bit_xor x generator < 1024
+minus_generator_lt x h k = subst (λ n. n < 1024) (reduced_is x h k) (reduced_lt x k)
 
 pub shift_in_lt : (r b : ℕ) → r < 1024 → b < 2 → shift_in r b < 1024
 shift_in_lt r b h k = reduced_lt (r * 2 + b) (omega arith)

@@ -18,7 +18,8 @@ fn minus_generator(p: u16) -> u16
 }
 
 // The remainder of r(x) × x + b.
-pub(crate) fn shift_in(r: u16, b: u16) -> u16
+#[tactic(auto, using(crate::proofs::Linear::reduced_low, crate::proofs::Linear::reduced_is, crate::proofs::Linear::minus_generator_lt))]
+fn shift_in(r: u16, b: u16) -> u16
     requires { (r < 2 ^ 10) × (b < 2) }
     ensures value { result ≡ shift_in r b }
     ensures degree { result < 2 ^ 10 }
