@@ -2,6 +2,7 @@
 -- Assumes nothing.
 use Rattle.std.proofs.Common.{◌≡◌, ℕ, zero, suc, ◌+◌, ◌-◌, ◌*◌, ◌/◌, ◌%◌, ◌^◌, ◌<◌, ◌≤◌, Bool, true, false, cond, eqb, List, [], ◌∷◌, sym, refl, ap, ◌∙◌, subst, ap₂, inl, inr, le_refl, add-zero, pow-suc, zero-add, zero-mul, add-one, arith, lit<}
 use native.Mathlib.Decide.{le_ind}
+use native.Mathlib.Nat.{div-eq_of_lt}
 use lib.Arith.{bin_ind, half_le}
 use lib.Bits.{bit_and, bit_xor, and_mask, xor_assoc, xor_comm, xor_self, xor_zero_r, xor_shr, xor_mod, xor_block, xor_lt}
 use Rattle.std.proofs.lemmas.Nat.{shr-shr}
@@ -75,6 +76,11 @@ rem-xor =
     ∙ ap₂ shift_in (ap rem (xor_shr a b 1) ∙ ih (b / 2)) (xor_mod a b 1)
     ∙ shift_in-xor (rem (a / 2)) (rem (b / 2)) (a % 2) (b % 2) (bit a) (bit b)
     ∙ ap₂ bit_xor (sym (rem_step a)) (sym (rem_step b)))
+
+-- a number of 32 bits has none from bit 32 up
+pub rem_none : (w : ℕ) → w < 2 ^ 32 → rem (w / 2 ^ 32) ≡ 0
+unfolding rem
+rem_none w h = ap rem (div-eq_of_lt h)
 
 -- one bit more of w, the lowest of those from i - 1 up
 pub rem_down : (w i : ℕ) → 0 < i → shift_in (rem (w / 2 ^ i)) (bit_and (w / 2 ^ (i - 1)) 1) ≡ rem (w / 2 ^ (i - 1))

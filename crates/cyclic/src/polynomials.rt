@@ -28,23 +28,15 @@ fn shift_in(r: u16, b: u16) -> u16
     if p >= X10 { minus_generator(p) } else { p }
 }
 
-// The remainder of a polynomial of a degree below `terms`, its coefficients shifted in from the highest down.
-fn divide(polynomial: u32, terms: u32) -> u16
-    requires { (polynomial < 2 ^ terms) × (terms ≤ 32) }
-    ensures value { result ≡ rem polynomial }
-    ensures meaning { Remainder polynomial result }
-{
-    let mut r = 0;
-    for i in (0..terms).rev() {
-        r = shift_in(r, (polynomial >> i & 1) as u16);
-    }
-    r
-}
-
 /// The remainder of a polynomial by the generator; `unique_remainder` says that there is no other.
+#[tactic(auto, using(crate::proofs::Linear::rem_none, crate::proofs::Linear::rem_down, crate::proofs::Linear::remainder))]
 pub fn remainder(polynomial: u32) -> u16
     ensures value { result ≡ rem polynomial }
     ensures meaning { Remainder polynomial result }
 {
-    divide(polynomial, u32::BITS)
+    let mut r = 0;
+    for i in (0..u32::BITS).rev() {
+        r = shift_in(r, (polynomial >> i & 1) as u16);
+    }
+    r
 }
