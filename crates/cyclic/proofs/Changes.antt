@@ -10,16 +10,14 @@ use Rattle.std.proofs.lemmas.Bool.{cases_lt}
 use Rattle.cyclic.specs.Polynomials.{rem}
 use Rattle.cyclic.specs.Words.{codeword, sent, cyclic_bits, message, syndrome, parity, corrected, differing, Points, PlainRule, SuspectRule}
 use Rattle.cyclic.specs.Laws.{FourChanges}
-use Rattle.cyclic.proofs.Linear.{xor_back, xor_none, rem-xor, rem_lt, rem_low}
+use Rattle.cyclic.proofs.Linear.{bit_cases, xor_back, xor_none, rem-xor, rem_lt, rem_low}
 use Rattle.cyclic.proofs.Distance.{distance}
 
 -- ---- how many bits are set
 
 pub ones_bit : (t : ℕ) → t < 2 → ones t ≡ t
 unfolding ones
-ones_bit zero h = refl
-ones_bit (suc zero) h = refl
-ones_bit (suc (suc t)) h = absurd (omega arith)
+ones_bit = bit_cases (λ (t : ℕ). ones t ≡ t) refl refl
 
 pub ones_both : (a b : ℕ) → ones (bit_xor a b) + 2 * ones (bit_and a b) ≡ ones a + ones b
 ones_both =

@@ -7,7 +7,7 @@ use lib.Count.{ones, ones_step}
 use Rattle.std.proofs.lemmas.Nat.{zero_from_ones}
 use Rattle.std.proofs.lemmas.Bool.{cases_lt, eq-eqb, and_parts, true≢false}
 use Rattle.cyclic.specs.Polynomials.{reduced, shift_in, rem}
-use Rattle.cyclic.proofs.Linear.{rem_step, shift_in-xor, reduced_low}
+use Rattle.cyclic.proofs.Linear.{bit_cases, rem_step, shift_in-xor, reduced_low}
 
 -- the remainders of n powers of x, the first of which is c
 abbrev pub columns : ℕ → ℕ → List ℕ
@@ -37,7 +37,7 @@ summed [] w = 0
 summed (c ∷ cs) w = bit_xor (w % 2 * c) (summed cs (w / 2))
 
 odd_or_even : (w : ℕ) → (w % 2 ≡ 0) ⊎ (w % 2 ≡ 1)
-odd_or_even w = elim (cases_lt (w % 2) 1) [ inl l ↦ inl (omega arith) | inr g ↦ inr (omega arith) ]
+odd_or_even w = bit_cases (λ (t : ℕ). (t ≡ 0) ⊎ (t ≡ 1)) (inl refl) (inr refl) (w % 2) (omega arith)
 
 summed_none : (cs : List ℕ) → summed cs 0 ≡ 0
 summed_none [] = refl
@@ -84,9 +84,8 @@ apart_none (c ∷ cs) k w t l o e =
 -- ---- a remainder is a sum of columns
 
 times-shift_in : (t c : ℕ) → t < 2 → t * shift_in c 0 ≡ shift_in (t * c) 0
-times-shift_in zero c h = zero-mul (shift_in c 0) ∙ ap (λ (n : ℕ). shift_in n 0) (sym (zero-mul c))
-times-shift_in (suc zero) c h = one-mul (shift_in c 0) ∙ ap (λ (n : ℕ). shift_in n 0) (sym (one-mul c))
-times-shift_in (suc (suc t)) c h = absurd (omega arith)
+times-shift_in t c =
+    bit_cases (λ (t : ℕ). t * shift_in c 0 ≡ shift_in (t * c) 0) (simp zero-mul) (simp one-mul) t
 
 summed-shift_in : (n c w : ℕ) → summed (columns n (shift_in c 0)) w ≡ shift_in (summed (columns n c) w) 0
 summed-shift_in zero c w = refl

@@ -12,6 +12,12 @@ use Rattle.cyclic.specs.Polynomials.{generator, times_g, Remainder, UniqueRemain
 bit : (n : ℕ) → n % 2 < 2
 bit n = omega arith
 
+-- what holds of 0 and of 1 holds of a bit
+pub bit_cases : (P : ℕ → Type 0) → P 0 → P 1 → (t : ℕ) → t < 2 → P t
+bit_cases P p q zero h = p
+bit_cases P p q (suc zero) h = q
+bit_cases P p q (suc (suc t)) h = absurd (omega arith)
+
 -- ---- exclusive-or
 
 pub xor_twice : (a b : ℕ) → bit_xor (bit_xor a b) b ≡ a
@@ -33,11 +39,9 @@ swap a b c d =
 -- ---- one step is linear
 
 scaled : (b c m : ℕ) → b < 2 → c < 2 → bit_xor b c * m ≡ bit_xor (b * m) (c * m)
-scaled zero c m p q = simp zero-mul
-scaled (suc zero) zero m p q = simp (zero-mul, xor_zero_r)
-scaled (suc zero) (suc zero) m p q = simp (zero-mul, xor_self)
-scaled (suc zero) (suc (suc c)) m p q = absurd (omega arith)
-scaled (suc (suc b)) c m p q = absurd (omega arith)
+scaled b c m p q =
+    bit_cases (λ (b : ℕ). bit_xor b c * m ≡ bit_xor (b * m) (c * m)) (simp zero-mul)
+    (bit_cases (λ (c : ℕ). bit_xor 1 c * m ≡ bit_xor (1 * m) (c * m)) (simp (zero-mul, xor_zero_r)) (simp (zero-mul, xor_self)) c q) b p
 
 tenth : (x y : ℕ) → bit_xor x y / 1024 % 2 ≡ bit_xor (x / 1024 % 2) (y / 1024 % 2)
 tenth x y = ap (λ (n : ℕ). n % 2) (xor_shr x y 10) ∙ xor_mod (x / 1024) (y / 1024) 1
@@ -156,9 +160,7 @@ only p r (h, (q, e)) =
     sym (ap rem e ∙ rem-xor (times_g q) r ∙ ap₂ bit_xor (rem-times_g q) (rem_low r h))
 
 times_bit : (t : ℕ) → t < 2 → cond (eqb t 1) generator 0 ≡ t * generator
-times_bit zero h = refl
-times_bit (suc zero) h = refl
-times_bit (suc (suc t)) h = absurd (omega arith)
+times_bit = bit_cases (λ (t : ℕ). cond (eqb t 1) generator 0 ≡ t * generator) refl refl
 
 pub rem_is : (p : ℕ) → (q : List Bool) × (p ≡ bit_xor (times_g q) (rem p))
 unfolding rem

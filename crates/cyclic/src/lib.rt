@@ -62,5 +62,6 @@ mod tests {
         for (bits, refusal) in [((1 << 29) - 1, None), (1 << 29, Some(17))] {
             assert_eq!(rt; Word::new(bits).err().map(|e| e.number()), refusal);
         }
+        assert!(rt; Bits::<40>::new(u32::MAX).is_ok());
     }
 }

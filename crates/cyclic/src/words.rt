@@ -66,7 +66,7 @@ impl Message {
     pub fn word(self) -> Word
         ensures { result.bits ≡ sent self.bits }
     {
-        Bits {
+        Word {
             bits: self.codeword() * 2 + self.parity_bit(),
         }
     }
@@ -85,7 +85,7 @@ impl Word {
     pub fn message(self) -> Message
         ensures { result.bits ≡ message self.bits }
     {
-        Bits {
+        Message {
             bits: self.bits >> (CHECK_BITS + 1),
         }
     }
