@@ -6,11 +6,6 @@ ghost use Rattle.cyclic.specs.Words.{check_bits, codeword, message, parity, sent
 use crate::polynomials::{CHECK_BITS, remainder};
 use service::Refusal;
 
-// How many guarded bits carry codes, and how many there are with the check bits and the overall parity bit.
-const MESSAGE_BITS: u32 = 18;
-
-const WORD_BITS: u32 = MESSAGE_BITS + CHECK_BITS + 1;
-
 /// A number of at most `N` bits.
 #[derive(Clone, Copy, PartialEq, Eq, Debug)]
 pub struct Bits<const N: u32> {
@@ -20,10 +15,10 @@ pub struct Bits<const N: u32> {
 
 /// The 18 guarded code bits, the message polynomial a(x): LSP1[3] at x^17 down to LSP10[3] at x^8, then CBGAIN1[1] at
 /// x^7 down to CBGAIN8[1] at x^0. Bit p is the coefficient of x^p.
-pub type Message = Bits<MESSAGE_BITS>;
+pub type Message = Bits<18>;
 
 /// The 29 guarded bits, inversions undone: the message from bit 11 up, PCB[10] to PCB[1] at bits 10 to 1, PCB[0] at bit 0.
-pub type Word = Bits<WORD_BITS>;
+pub type Word = Bits<29>;
 
 impl<const N: u32> Bits<N> {
     /// These bits, or refusal 17 if one above the lowest `N` is set.
