@@ -1,4 +1,4 @@
--- The first power whose remainder is the syndrome. Below the length of the code 1 << p is 2 ^ p.
+-- The first power of x whose remainder is the syndrome: below the length of the code, 1 << p is 2 ^ p.
 use Rattle.std.proofs.Common.{◌≡◌, ◌^◌, ◌<◌, ◌≢◌, arith, rules, tests}
 use lib.Pow.{pow-lt}
 use Rattle.std.proofs.lemmas.Iterator.{first_from_Range}
