@@ -1,24 +1,23 @@
 -- With at most four of the 29 bits changed, what is read is what was sent.
 -- Assumes nothing.
-use Rattle.std.proofs.Common.{◌≡◌, ℕ, zero, suc, ◌+◌, ◌*◌, ◌/◌, ◌%◌, ◌^◌, ◌<◌, ◌≤◌, Some, None, Option, sym, refl, ap, ◌∙◌, ap₂, inl, inr, add-zero, one-mul, pow-suc, add-one, arith, pow_pos, pow_mono}
+use Rattle.std.proofs.Common.{◌≡◌, ℕ, suc, ◌+◌, ◌*◌, ◌/◌, ◌%◌, ◌^◌, ◌<◌, ◌≤◌, Some, None, Option, sym, refl, ap, ◌∙◌, ap₂, inl, inr, add-zero, one-mul, pow-suc, add-one, arith, pow_pos, pow_mono}
 use lib.Arith.{bin_ind}
 use lib.Bits.{bit_and, bit_xor, xor_comm, xor_self, xor_shr, xor_mod, xor_lt, xor_shifted, xor_add_and, and_shr, and_mod}
 use lib.Count.{ones, ones_step, ones_cat}
 use lib.Pow.{pow-lt}
+use Rattle.std.proofs.lemmas.Nat.{zero_from_ones}
 use Rattle.std.proofs.lemmas.Bool.{cases_lt}
 use Rattle.cyclic.specs.Polynomials.{rem}
 use Rattle.cyclic.specs.Words.{codeword, sent, cyclic_bits, message, syndrome, parity, corrected, differing, Points, PlainRule, SuspectRule}
 use Rattle.cyclic.specs.Laws.{FourChanges}
-use Rattle.cyclic.proofs.Linear.{xor_back, xor_none, rem-xor, rem_lt, rem_low}
-use Rattle.cyclic.proofs.Distance.{distance, ones_none}
+use Rattle.cyclic.proofs.Linear.{bit_cases, xor_back, xor_none, rem-xor, rem_lt, rem_low}
+use Rattle.cyclic.proofs.Distance.{distance}
 
 -- ---- how many bits are set
 
 pub ones_bit : (t : ℕ) → t < 2 → ones t ≡ t
 unfolding ones
-ones_bit zero h = refl
-ones_bit (suc zero) h = refl
-ones_bit (suc (suc t)) h = absurd (omega arith)
+ones_bit = bit_cases (λ (t : ℕ). ones t ≡ t) refl refl
 
 pub ones_both : (a b : ℕ) → ones (bit_xor a b) + 2 * ones (bit_and a b) ≡ ones a + ones b
 ones_both =
@@ -47,7 +46,7 @@ ones_one =
           let t = e.1 in
           let u = pow-suc 2 e.0 in
           (suc e.0, omega arith)
-      | inr g ↦ let z : w / 2 ≡ 0 = ones_none (w / 2) (omega arith) in (0, omega arith)
+      | inr g ↦ let z : w / 2 ≡ 0 = zero_from_ones (w / 2) (omega arith) in (0, omega arith)
     ])
 
 -- ---- the codeword
@@ -141,7 +140,7 @@ module _ (a w : ℕ) (la : a < 2 ^ 18) (lw : w < 2 ^ 29) where
   unfolding rem
   some_changed z = elim (cases_lt 0 (ones changed)) [
     | inl l ↦ l
-    | inr g ↦ absurd (z (syndrome_is ∙ ap rem (ones_none changed g)))
+    | inr g ↦ absurd (z (syndrome_is ∙ ap rem (zero_from_ones changed (omega arith))))
   ]
 
   suspect_read : (r : Option ℕ) → SuspectRule w r → differing (sent a) w ≤ 1 → r ≡ Some a

@@ -1,12 +1,12 @@
 -- No word of 28 bits but 0, with at most four bits set, has remainder 0: by a test that antt computes over the 28 columns.
 -- Assumes nothing.
 use Rattle.std.proofs.Common.{◌≡◌, ℕ, zero, suc, ◌*◌, ◌/◌, ◌%◌, ◌^◌, ◌<◌, ◌≤◌, Bool, true, not, ◌&&◌, eqb, ◌⊎◌, List, [], ◌∷◌, length, sym, refl, ap, ◌∙◌, ap₂, inl, inr, one-mul, pow-suc, zero-add, zero-mul, mul-one, arith}
-use lib.Arith.{bin_ind}
 use lib.Bits.{bit_xor, xor_assoc, xor_comm, xor_zero_r}
 use lib.Count.{ones, ones_step}
-use Rattle.std.proofs.lemmas.Bool.{cases_lt, eq-eqb, and_parts, true≢false}
+use Rattle.std.proofs.lemmas.Nat.{zero_from_ones}
+use Rattle.std.proofs.lemmas.Bool.{eq-eqb, and_parts, true≢false}
 use Rattle.cyclic.specs.Polynomials.{reduced, shift_in, rem}
-use Rattle.cyclic.proofs.Linear.{rem_step, shift_in-xor, reduced_low}
+use Rattle.cyclic.proofs.Linear.{bit_cases, rem_step, shift_in-xor, reduced_low}
 
 -- the remainders of n powers of x, the first of which is c
 abbrev pub columns : ℕ → ℕ → List ℕ
@@ -36,12 +36,7 @@ summed [] w = 0
 summed (c ∷ cs) w = bit_xor (w % 2 * c) (summed cs (w / 2))
 
 odd_or_even : (w : ℕ) → (w % 2 ≡ 0) ⊎ (w % 2 ≡ 1)
-odd_or_even w = elim (cases_lt (w % 2) 1) [ inl l ↦ inl (omega arith) | inr g ↦ inr (omega arith) ]
-
-pub ones_none : (w : ℕ) → ones w ≤ 0 → w ≡ 0
-ones_none =
-    bin_ind (λ (w : ℕ). ones w ≤ 0 → w ≡ 0) (λ h. refl)
-    (λ w ih h. let e = ones_step w in let z : w / 2 ≡ 0 = ih (omega arith) in omega arith)
+odd_or_even w = bit_cases (λ (t : ℕ). (t ≡ 0) ⊎ (t ≡ 1)) (inl refl) (inr refl) (w % 2) (omega arith)
 
 summed_none : (cs : List ℕ) → summed cs 0 ≡ 0
 summed_none [] = refl
@@ -62,7 +57,7 @@ not_zero a t e = true≢false (sym t ∙ ap not (eq-eqb a 0 e))
 misses_none : (cs : List ℕ) (k a w : ℕ) → misses cs k a ≡ true → w < 2 ^ length cs → ones w ≤ k → bit_xor a (summed cs w) ≡ 0 → ⊥
 misses_none [] k a w t l o e = not_zero a t (sym (xor_zero_r a) ∙ e)
 misses_none (c ∷ cs) zero a w t l o e =
-    not_zero a t (sym (xor_zero_r a) ∙ ap (bit_xor a) (sym (ap (summed (c ∷ cs)) (ones_none w o) ∙ summed_none (c ∷ cs))) ∙ e)
+    not_zero a t (sym (xor_zero_r a) ∙ ap (bit_xor a) (sym (ap (summed (c ∷ cs)) (zero_from_ones w (omega arith)) ∙ summed_none (c ∷ cs))) ∙ e)
 misses_none (c ∷ cs) (suc k) a w t l o e =
     let p = and_parts (misses cs (suc k) a) (misses cs k (bit_xor a c)) t in
     let s = ones_step w in
@@ -88,9 +83,8 @@ apart_none (c ∷ cs) k w t l o e =
 -- ---- a remainder is a sum of columns
 
 times-shift_in : (t c : ℕ) → t < 2 → t * shift_in c 0 ≡ shift_in (t * c) 0
-times-shift_in zero c h = zero-mul (shift_in c 0) ∙ ap (λ (n : ℕ). shift_in n 0) (sym (zero-mul c))
-times-shift_in (suc zero) c h = one-mul (shift_in c 0) ∙ ap (λ (n : ℕ). shift_in n 0) (sym (one-mul c))
-times-shift_in (suc (suc t)) c h = absurd (omega arith)
+times-shift_in t c =
+    bit_cases (λ (t : ℕ). t * shift_in c 0 ≡ shift_in (t * c) 0) (simp zero-mul) (simp one-mul) t
 
 summed-shift_in : (n c w : ℕ) → summed (columns n (shift_in c 0)) w ≡ shift_in (summed (columns n c) w) 0
 summed-shift_in zero c w = refl

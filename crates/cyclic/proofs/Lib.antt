@@ -1,4 +1,5 @@
 pub mod Linear
+pub mod Shifts
 pub mod Distance
 pub mod Changes
 pub mod Readings

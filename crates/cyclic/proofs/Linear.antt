@@ -1,7 +1,8 @@
 -- The remainder by g is linear, and is the only remainder.
 -- Assumes nothing.
-use Rattle.std.proofs.Common.{◌≡◌, ℕ, zero, suc, ◌+◌, ◌-◌, ◌*◌, ◌/◌, ◌%◌, ◌^◌, ◌<◌, ◌≤◌, Bool, true, false, cond, eqb, List, [], ◌∷◌, sym, refl, ap, ◌∙◌, subst, ap₂, inl, inr, le_refl, add-zero, pow-suc, zero-add, zero-mul, add-one, arith, lit<}
+use Rattle.std.proofs.Common.{◌≡◌, ℕ, zero, suc, ◌+◌, ◌-◌, ◌*◌, ◌/◌, ◌%◌, ◌^◌, ◌<◌, ◌≤◌, Bool, true, false, cond, eqb, List, [], ◌∷◌, sym, refl, ap, ◌∙◌, subst, ap₂, inl, inr, le_refl, add-zero, zero-add, zero-mul, arith, lit<}
 use native.Mathlib.Decide.{le_ind}
+use native.Mathlib.Nat.{div-eq_of_lt}
 use lib.Arith.{bin_ind, half_le}
 use lib.Bits.{bit_and, bit_xor, and_mask, xor_assoc, xor_comm, xor_self, xor_zero_r, xor_shr, xor_mod, xor_block, xor_lt}
 use Rattle.std.proofs.lemmas.Nat.{shr-shr}
@@ -10,6 +11,12 @@ use Rattle.cyclic.specs.Polynomials.{generator, times_g, Remainder, UniqueRemain
 
 bit : (n : ℕ) → n % 2 < 2
 bit n = omega arith
+
+-- what holds of 0 and of 1 holds of a bit
+pub bit_cases : (P : ℕ → Type 0) → P 0 → P 1 → (t : ℕ) → t < 2 → P t
+bit_cases P p q zero h = p
+bit_cases P p q (suc zero) h = q
+bit_cases P p q (suc (suc t)) h = absurd (omega arith)
 
 -- ---- exclusive-or
 
@@ -32,11 +39,9 @@ swap a b c d =
 -- ---- one step is linear
 
 scaled : (b c m : ℕ) → b < 2 → c < 2 → bit_xor b c * m ≡ bit_xor (b * m) (c * m)
-scaled zero c m p q = simp zero-mul
-scaled (suc zero) zero m p q = simp (zero-mul, xor_zero_r)
-scaled (suc zero) (suc zero) m p q = simp (zero-mul, xor_self)
-scaled (suc zero) (suc (suc c)) m p q = absurd (omega arith)
-scaled (suc (suc b)) c m p q = absurd (omega arith)
+scaled b c m p q =
+    bit_cases (λ (b : ℕ). bit_xor b c * m ≡ bit_xor (b * m) (c * m)) (simp zero-mul)
+    (bit_cases (λ (c : ℕ). bit_xor 1 c * m ≡ bit_xor (1 * m) (c * m)) (simp (zero-mul, xor_zero_r)) (simp (zero-mul, xor_self)) c q) b p
 
 tenth : (x y : ℕ) → bit_xor x y / 1024 % 2 ≡ bit_xor (x / 1024 % 2) (y / 1024 % 2)
 tenth x y = ap (λ (n : ℕ). n % 2) (xor_shr x y 10) ∙ xor_mod (x / 1024) (y / 1024) 1
@@ -76,20 +81,17 @@ rem-xor =
     ∙ shift_in-xor (rem (a / 2)) (rem (b / 2)) (a % 2) (b % 2) (bit a) (bit b)
     ∙ ap₂ bit_xor (sym (rem_step a)) (sym (rem_step b)))
 
+-- a number of 32 bits has none from bit 32 up
+pub rem_none : (w : ℕ) → w < 2 ^ 32 → rem (w / 2 ^ 32) ≡ 0
+unfolding rem
+rem_none w h = ap rem (div-eq_of_lt h)
+
 -- one bit more of w, the lowest of those from i - 1 up
 pub rem_down : (w i : ℕ) → 0 < i → shift_in (rem (w / 2 ^ i)) (bit_and (w / 2 ^ (i - 1)) 1) ≡ rem (w / 2 ^ (i - 1))
 rem_down w i h =
     let n = w / 2 ^ (i - 1) in
     let e : i - 1 + 1 ≡ i = omega arith in
     ap₂ shift_in (ap rem (sym (shr-shr w (i - 1) 1 ∙ ap (λ (k : ℕ). w / 2 ^ k) e))) (and_mask n 1) ∙ sym (rem_step n)
-
--- the next power of x
-pub rem_next : (p : ℕ) → rem (2 ^ (p + 1)) ≡ shift_in (rem (2 ^ p)) 0
-rem_next p =
-    let d : 2 ^ (p + 1) ≡ 2 ^ p * 2 = ap (λ (n : ℕ). 2 ^ n) (add-one p) ∙ pow-suc 2 p in
-    let half : 2 ^ p * 2 / 2 ≡ 2 ^ p = omega arith in
-    let even : 2 ^ p * 2 % 2 ≡ 0 = omega arith in
-    ap rem d ∙ rem_step (2 ^ p * 2) ∙ ap₂ shift_in (ap rem half) even
 
 -- ---- the size of a remainder
 
@@ -118,6 +120,9 @@ reduced_lt x h = elim (cases_lt x 1024) [
       (subst (λ (n : ℕ). n < 1024) (sym (reduced_high (x - 1024) (omega arith)))
       (xor_lt 10 (x - 1024) 873 (omega arith) (lit< tt)))
 ]
+
+pub minus_generator_lt : (x : ℕ) → 1024 ≤ x → x < 2048 → bit_xor x generator < 1024
+minus_generator_lt x h k = subst (λ n. n < 1024) (reduced_is x h k) (reduced_lt x k)
 
 pub shift_in_lt : (r b : ℕ) → r < 1024 → b < 2 → shift_in r b < 1024
 shift_in_lt r b h k = reduced_lt (r * 2 + b) (omega arith)
@@ -155,9 +160,7 @@ only p r (h, (q, e)) =
     sym (ap rem e ∙ rem-xor (times_g q) r ∙ ap₂ bit_xor (rem-times_g q) (rem_low r h))
 
 times_bit : (t : ℕ) → t < 2 → cond (eqb t 1) generator 0 ≡ t * generator
-times_bit zero h = refl
-times_bit (suc zero) h = refl
-times_bit (suc (suc t)) h = absurd (omega arith)
+times_bit = bit_cases (λ (t : ℕ). cond (eqb t 1) generator 0 ≡ t * generator) refl refl
 
 pub rem_is : (p : ℕ) → (q : List Bool) × (p ≡ bit_xor (times_g q) (rem p))
 unfolding rem

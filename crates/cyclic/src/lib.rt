@@ -12,34 +12,17 @@ pub use laws::{
 };
 pub use places::{Place, place_of};
 pub use polynomials::remainder;
-pub use words::{Message, Word};
+pub use words::{Bits, Message, Word};
 
 #[cfg(test)]
 mod tests {
     use super::*;
-    use service::Refusal;
     use std::test::Fail;
-
-    // What a call answered, where it should not refuse.
-    fn answered<T>(answer: Result<T, Refusal>) -> Result<T, Fail> {
-        match answer {
-            Ok(value) => Ok(value),
-            Err(refusal) => Err(Fail::new(refusal.number())),
-        }
-    }
-
-    // The number of a refusal, or 0 if there is none.
-    fn refusal_of<T: Drop>(answer: Result<T, Refusal>) -> u8 {
-        match answer {
-            Ok(_) => 0,
-            Err(refusal) => refusal.number(),
-        }
-    }
 
     #[test]
     fn words_of_two_messages(rt: HostRuntime) -> Result<(), Fail> {
         for (bits, check_bits, parity) in [(0, 0, 0), (1, 0b11_0110_1001, 1)] {
-            let message = answered(Message::new(bits))?;
+            let message = Message::new(bits)?;
             let word = message.word();
             assert_eq!(rt; message.check_bits(), check_bits);
             assert_eq!(rt;
@@ -54,14 +37,12 @@ mod tests {
 
     #[test]
     fn the_place_of_one_change(rt: HostRuntime) -> Result<(), Fail> {
-        let sent = answered(Message::new(0b10_1100_0111_0101_1001))?.word();
+        let sent = Message::new(0b10_1100_0111_0101_1001)?.word();
         for power in [0, 9, 10, 27] {
-            let word = answered(Word::new(sent.bits() ^ 1 << (power + 1)))?;
+            let word = Word::new(sent.bits() ^ 1 << (power + 1))?;
             assert!(rt; !word.parity_checks());
-            match place_of(word.syndrome()) {
-                Some(place) => assert_eq!(rt; place.power(), power),
-                None => assert!(rt; false),
-            }
+            let place = place_of(word.syndrome());
+            assert_eq!(rt; place.map(|place| place.power()), Some(power));
         }
         Ok(())
     }
@@ -75,9 +56,12 @@ mod tests {
 
     #[test]
     fn too_many_bits(rt: HostRuntime) {
-        assert_eq!(rt; refusal_of(Message::new((1 << 18) - 1)), 0);
-        assert_eq!(rt; refusal_of(Message::new(1 << 18)), 17);
-        assert_eq!(rt; refusal_of(Word::new((1 << 29) - 1)), 0);
-        assert_eq!(rt; refusal_of(Word::new(1 << 29)), 17);
+        for (bits, refusal) in [((1 << 18) - 1, None), (1 << 18, Some(17))] {
+            assert_eq!(rt; Message::new(bits).err().map(|e| e.number()), refusal);
+        }
+        for (bits, refusal) in [((1 << 29) - 1, None), (1 << 29, Some(17))] {
+            assert_eq!(rt; Word::new(bits).err().map(|e| e.number()), refusal);
+        }
+        assert!(rt; Bits::<40>::new(u32::MAX).is_ok());
     }
 }

@@ -2,8 +2,9 @@
 ghost use Rattle.std.specs.Prelude.{◌≡◌, ℕ, ◌^◌, ◌<◌, ◌≤◌, MatchOption, ◌≢◌};
 ghost use Rattle.cyclic.specs.Polynomials.{rem};
 ghost use Rattle.cyclic.specs.Words.{Points};
+ghost use Rattle.cyclic.specs.declared.places.TheConstants.{CODE_BITS};
 
-use crate::polynomials::shift_in;
+use crate::polynomials::remainder;
 
 // The length of the cyclic code.
 const CODE_BITS: u8 = 28;
@@ -25,25 +26,17 @@ impl Place {
     }
 }
 
-// The place whose power of x leaves the remainder, or none if there is none among the first `count`.
-fn place_below(count: u8, syndrome: u16) -> Option<Place>
-    requires { count ≤ 28 }
-    ensures { MatchOption result ((p : ℕ) → p < count → rem (2 ^ p) ≢ syndrome) (λ place. Points syndrome place.power) }
+// The power of x that leaves this remainder, or none if none of the 28 does.
+fn power_of(syndrome: u16) -> Option<u8>
+    ensures { MatchOption result ((p : ℕ) → p < CODE_BITS → rem (2 ^ p) ≢ syndrome) (λ p. (p < CODE_BITS) × (rem (2 ^ p) ≡ syndrome)) }
 {
-    // the remainder of x^power
-    let mut column = 1;
-    for power in 0..count {
-        if column == syndrome {
-            return Some(Place { power });
-        }
-        column = shift_in(column, 0);
-    }
-    None
+    (0..CODE_BITS).find(|&power| remainder(1 << power) == syndrome)
 }
 
 /// The place that a syndrome points at: the one whose power of x leaves this remainder, or none exactly if there is none.
 pub fn place_of(syndrome: u16) -> Option<Place>
     ensures { MatchOption result ((p : ℕ) → Points syndrome p → ⊥) (λ place. Points syndrome place.power) }
 {
-    place_below(CODE_BITS, syndrome)
+    let power = power_of(syndrome)?;
+    Some(Place { power })
 }

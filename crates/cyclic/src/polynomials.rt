@@ -17,8 +17,10 @@ fn minus_generator(p: u16) -> u16
     p ^ GENERATOR
 }
 
-// The remainder of r(x) × x + b.
-pub(crate) fn shift_in(r: u16, b: u16) -> u16
+// The remainder of r(x) × x + b. A u16 and no type of its own: `check_bits` and `syndrome` give a u16 to any caller, so that
+// their clauses on its degree would stay beside the type's.
+#[tactic(auto, using(crate::proofs::Linear::reduced_low, crate::proofs::Linear::reduced_is, crate::proofs::Linear::minus_generator_lt))]
+fn shift_in(r: u16, b: u16) -> u16
     requires { (r < 2 ^ 10) × (b < 2) }
     ensures value { result ≡ shift_in r b }
     ensures degree { result < 2 ^ 10 }
@@ -27,23 +29,17 @@ pub(crate) fn shift_in(r: u16, b: u16) -> u16
     if p >= X10 { minus_generator(p) } else { p }
 }
 
-// The remainder of a polynomial of a degree below `terms`, its coefficients shifted in from the highest down.
-fn divide(polynomial: u32, terms: u32) -> u16
-    requires { (polynomial < 2 ^ terms) × (terms ≤ 32) }
-    ensures value { result ≡ rem polynomial }
-    ensures meaning { Remainder polynomial result }
-{
-    let mut r = 0;
-    for i in (0..terms).rev() {
-        r = shift_in(r, (polynomial >> i & 1) as u16);
-    }
-    r
-}
-
 /// The remainder of a polynomial by the generator; `unique_remainder` says that there is no other.
+#[tactic(auto, using(crate::proofs::Linear::rem_none, crate::proofs::Linear::rem_down, crate::proofs::Linear::remainder))]
 pub fn remainder(polynomial: u32) -> u16
     ensures value { result ≡ rem polynomial }
     ensures meaning { Remainder polynomial result }
 {
-    divide(polynomial, u32::BITS)
+    // A `for` and no `fold`: what `shift_in` asks of r is said once, in the loop's invariant. A fold's closure has to be
+    // proved callable at each turn, and no lemma of the library does it over `rev`.
+    let mut r = 0;
+    for i in (0..u32::BITS).rev() {
+        r = shift_in(r, (polynomial >> i & 1) as u16);
+    }
+    r
 }

@@ -6,57 +6,60 @@ ghost use Rattle.cyclic.specs.Words.{check_bits, codeword, message, parity, sent
 use crate::polynomials::{CHECK_BITS, remainder};
 use service::Refusal;
 
-// How many guarded bits carry codes, and how many there are with the check bits and the overall parity bit.
-const MESSAGE_BITS: u32 = 18;
-
-const WORD_BITS: u32 = MESSAGE_BITS + CHECK_BITS + 1;
+/// A number of at most `N` bits.
+#[derive(Clone, Copy, PartialEq, Eq, Debug)]
+pub struct Bits<const N: u32> {
+    bits: u32,
+    ghost within: { bits < 2 ^ N },
+}
 
 /// The 18 guarded code bits, the message polynomial a(x): LSP1[3] at x^17 down to LSP10[3] at x^8, then CBGAIN1[1] at
-/// x^7 down to CBGAIN8[1] at x^0.
-#[derive(Clone, Copy, PartialEq, Eq, Debug)]
-pub struct Message {
-    coefficients: u32,
-    ghost within: { coefficients < 2 ^ 18 },
+/// x^7 down to CBGAIN8[1] at x^0. Bit p is the coefficient of x^p.
+pub type Message = Bits<18>;
+
+/// The 29 guarded bits, inversions undone: the message from bit 11 up, PCB[10] to PCB[1] at bits 10 to 1, PCB[0] at bit 0.
+pub type Word = Bits<29>;
+
+impl<const N: u32> Bits<N> {
+    /// These bits, or refusal 17 if one above the lowest `N` is set.
+    #[tactic(auto, using(crate::proofs::Shifts::fits, crate::proofs::Shifts::fits_not))]
+    pub fn new(bits: u32) -> Result<Bits<N>, Refusal>
+        ensures { MatchResult result (λ b. b.bits ≡ bits) (λ e. (refusal_is e ≡ refused 17) × (2 ^ N ≤ bits)) }
+    {
+        if bits.unbounded_shr(N) != 0 {
+            return Err(Refusal::Codes);
+        }
+        Ok(Bits { bits })
+    }
+
+    /// The bits as a number.
+    pub fn bits(self) -> u32
+        ensures value { result ≡ self.entry.bits }
+        ensures within { result < 2 ^ N }
+    {
+        self.bits
+    }
 }
 
 impl Message {
-    /// The message with these coefficients, bit p that of x^p, or refusal 17 if a bit above the lowest 18 is set.
-    pub fn new(coefficients: u32) -> Result<Message, Refusal>
-        ensures { MatchResult result (λ m. m.coefficients ≡ coefficients)
-            (λ e. (refusal_is e ≡ refused 17) × (2 ^ 18 ≤ coefficients)) }
-    {
-        if coefficients >> MESSAGE_BITS != 0 {
-            return Err(Refusal::Codes);
-        }
-        Ok(Message { coefficients })
-    }
-
-    /// The coefficients, bit p that of x^p.
-    pub fn coefficients(self) -> u32
-        ensures value { result ≡ self.coefficients }
-        ensures within { result < 2 ^ 18 }
-    {
-        self.coefficients
-    }
-
     /// The ten check bits before inversion, PCB[10] at x^9 down to PCB[1] at x^0.
     pub fn check_bits(self) -> u16
-        ensures value { result ≡ check_bits self.coefficients }
+        ensures value { result ≡ check_bits self.bits }
         ensures within { result < 2 ^ 10 }
     {
-        remainder(self.coefficients << CHECK_BITS)
+        remainder(self.bits << CHECK_BITS)
     }
 
     /// The overall parity bit PCB[0]: the exclusive-or of the message and its check bits.
     pub fn parity_bit(self) -> u32
-        ensures { result ≡ parity (codeword self.coefficients) }
+        ensures { result ≡ parity (codeword self.bits) }
     {
         self.codeword().count_ones() % 2
     }
 
     /// The word that is sent for the message, before inversion.
     pub fn word(self) -> Word
-        ensures { result.bits ≡ sent self.coefficients }
+        ensures { result.bits ≡ sent self.bits }
     {
         Word {
             bits: self.codeword() * 2 + self.parity_bit(),
@@ -65,45 +68,20 @@ impl Message {
 
     // The 28 bits of the cyclic code.
     fn codeword(self) -> u32
-        ensures value { result ≡ codeword self.coefficients }
+        ensures value { result ≡ codeword self.bits }
         ensures within { result < 2 ^ 28 }
     {
-        (self.coefficients << CHECK_BITS) + u32::from(self.check_bits())
+        (self.bits << CHECK_BITS) + u32::from(self.check_bits())
     }
-}
-
-/// The 29 guarded bits, inversions undone: the message from bit 11 up, PCB[10] to PCB[1] at bits 10 to 1, PCB[0] at bit 0.
-#[derive(Clone, Copy, PartialEq, Eq, Debug)]
-pub struct Word {
-    bits: u32,
-    ghost within: { bits < 2 ^ 29 },
 }
 
 impl Word {
-    /// The word with these bits, or refusal 17 if a bit above the lowest 29 is set.
-    pub fn new(bits: u32) -> Result<Word, Refusal>
-        ensures { MatchResult result (λ w. w.bits ≡ bits) (λ e. (refusal_is e ≡ refused 17) × (2 ^ 29 ≤ bits)) }
-    {
-        if bits >> WORD_BITS != 0 {
-            return Err(Refusal::Codes);
-        }
-        Ok(Word { bits })
-    }
-
-    /// The bits.
-    pub fn bits(self) -> u32
-        ensures value { result ≡ self.bits }
-        ensures within { result < 2 ^ 29 }
-    {
-        self.bits
-    }
-
     /// The 18 guarded code bits as they stand in the word; nothing is corrected.
     pub fn message(self) -> Message
-        ensures { result.coefficients ≡ message self.bits }
+        ensures { result.bits ≡ message self.bits }
     {
         Message {
-            coefficients: self.bits >> (CHECK_BITS + 1),
+            bits: self.bits >> (CHECK_BITS + 1),
         }
     }
 

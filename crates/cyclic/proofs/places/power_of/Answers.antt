@@ -1,0 +1,16 @@
+-- The first power of x whose remainder is the syndrome: below the length of the code, 1 << p is 2 ^ p.
+use Rattle.std.proofs.Common.{◌≡◌, ◌^◌, ◌<◌, ◌≢◌, arith, rules, tests}
+use lib.Pow.{pow-lt}
+use Rattle.std.proofs.lemmas.Iterator.{first_from_Range}
+use Rattle.cyclic.specs.Polynomials.{rem}
+use Rattle.cyclic.specs.declared.places.TheConstants.{CODE_BITS}
+use Rattle.cyclic.proofs.places.power_of.Goals as goal
+
+pub returns : goal.returns
+returns c =
+    let s = c.args.syndrome in
+    let found =
+    first_from_Range _ _ _ _ (λ p. p < CODE_BITS → rem (2 ^ p) ≡ s) (λ p. p < CODE_BITS → rem (2 ^ p) ≢ s) c.find.ensures.ran
+    (λ x q k l. let h = pow-lt l in grind (arith, tests))
+    (λ x q k. (search rules, λ l. let h = pow-lt l in grind (arith, tests))) in
+    search rules
