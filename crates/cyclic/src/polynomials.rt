@@ -17,8 +17,8 @@ fn minus_generator(p: u16) -> u16
     p ^ GENERATOR
 }
 
-// The remainder of r(x) × x + b. A u16 and no type of its own: `check_bits` and `syndrome` give a u16 to any caller, so that
-// their clauses on its degree would stay beside the type's.
+// The remainder of r(x) × x + b.
+// No type for a remainder: `remainder`, `check_bits` and `syndrome` give a u16 to any caller, so their bounds would stay.
 #[tactic(auto, using(crate::proofs::Linear::reduced_low, crate::proofs::Linear::reduced_is, crate::proofs::Linear::minus_generator_lt))]
 fn shift_in(r: u16, b: u16) -> u16
     requires { (r < 2 ^ 10) × (b < 2) }
@@ -35,8 +35,7 @@ pub fn remainder(polynomial: u32) -> u16
     ensures value { result ≡ rem polynomial }
     ensures meaning { Remainder polynomial result }
 {
-    // A `for` and no `fold`: what `shift_in` asks of r is said once, in the loop's invariant. A fold's closure has to be
-    // proved callable at each turn, and no lemma of the library does it over `rev`.
+    // A `for` and no fold: a fold's closure would need `shift_in`'s bound on r proved at each call; here one invariant says it.
     let mut r = 0;
     for i in (0..u32::BITS).rev() {
         r = shift_in(r, (polynomial >> i & 1) as u16);
