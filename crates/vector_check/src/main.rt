@@ -52,41 +52,57 @@ fn run(rt: &HostRuntime) -> anyhow::Result<()> {
         println!(rt; "{HELP}")?;
         return Ok(());
     }
-    let Tally { compared, differ } = compare_reels(rt, folder.as_str())?;
+    let vectors = Vectors {
+        rt,
+        folder: folder.as_str(),
+    };
+    let Tally { compared, differ } = vectors.compare_reels()?;
     println!(rt; "reel-check: {compared} compared, {differ} differ")?;
     ensure!(compared > 0, "there was nothing to compare");
     ensure!(differ == 0, "some answers differ");
     Ok(())
 }
 
-/// The answers of the check, by the cases of `reel-check.txt`: a reel's name, a space and the answer.
-fn compare_reels(rt: &HostRuntime, folder: &str) -> anyhow::Result<Tally> {
-    let cases = read_cases(rt, folder, "reel-check.txt")?;
-    let mut tally = Tally::default();
-    for case in cases.as_str().lines() {
-        let (name, expected) = case
-            .split_once(' ')
-            .context("reel-check.txt has a line without an answer")?;
-        tally.count(compare_reel(rt, folder, name, expected)?);
-    }
-    Ok(tally)
+/// A folder of reference vectors.
+#[derive(Clone, Copy)]
+struct Vectors<'a> {
+    rt: &'a HostRuntime,
+    folder: &'a str,
 }
 
-/// Whether the check of one reel answers as expected; a difference is named.
-fn compare_reel(
-    rt: &HostRuntime,
-    folder: &str,
-    name: &str,
-    expected: &str,
-) -> anyhow::Result<bool> {
-    let heap = rt.alloc();
-    let path = format!(in heap; "{folder}/{name}.reel")?;
-    let bytes = fs::read(rt, path.as_str()).context(format_args!("cannot read {path}"))?;
-    let Some(answer) = difference(heap, &bytes, expected)? else {
-        return Ok(true);
-    };
-    println!(rt; "reel-check {name}: expected '{expected}', answered '{answer}'")?;
-    Ok(false)
+impl Vectors<'_> {
+    /// The answers of the check, by the cases of `reel-check.txt`: a reel's name, a space and the answer.
+    fn compare_reels(self) -> anyhow::Result<Tally> {
+        let cases = self.read_cases("reel-check.txt")?;
+        let mut tally = Tally::default();
+        for case in cases.as_str().lines() {
+            let (name, expected) = case
+                .split_once(' ')
+                .context("reel-check.txt has a line without an answer")?;
+            tally.count(self.compare_reel(name, expected)?);
+        }
+        Ok(tally)
+    }
+
+    /// Whether the check of one reel answers as expected; a difference is named.
+    fn compare_reel(self, name: &str, expected: &str) -> anyhow::Result<bool> {
+        let Vectors { rt, folder } = self;
+        let heap = rt.alloc();
+        let path = format!(in heap; "{folder}/{name}.reel")?;
+        let bytes = fs::read(rt, path.as_str()).context(format_args!("cannot read {path}"))?;
+        let Some(answer) = difference(heap, &bytes, expected)? else {
+            return Ok(true);
+        };
+        println!(rt; "reel-check {name}: expected '{expected}', answered '{answer}'")?;
+        Ok(false)
+    }
+
+    /// The text of a file of cases.
+    fn read_cases(self, file: &str) -> anyhow::Result<String> {
+        let Vectors { rt, folder } = self;
+        let path = format!(in rt.alloc(); "{folder}/{file}")?;
+        fs::read_to_string(rt, path.as_str()).context(format_args!("cannot read {path}"))
+    }
 }
 
 /// What the check of a reel answers, if that is not what is expected.
@@ -100,11 +116,4 @@ fn difference(heap: Global, bytes: &[u8], expected: &str) -> Result<Option<Strin
     } else {
         Ok(Some(answer))
     }
-}
-
-/// The text of a file of cases.
-fn read_cases(rt: &HostRuntime, folder: &str, file: &str) -> anyhow::Result<String> {
-    let heap = rt.alloc();
-    let path = format!(in heap; "{folder}/{file}")?;
-    fs::read_to_string(rt, path.as_str()).context(format_args!("cannot read {path}"))
 }
