@@ -2,6 +2,7 @@
 #![tactic(auto)]
 
 ghost use Rattle.std.specs.Prelude.{◌≡◌, take, IfOk, IfSome};
+ghost use Rattle.std.specs.Option.{option_map};
 
 use anyhow::{Context, ensure};
 use program::exit_code;
@@ -48,7 +49,7 @@ fn run(rt: &HostRuntime) -> anyhow::Result<()> {
 
 /// The bytes of an input, up to the most that are looked at.
 fn read_reel<R: Read + Drop>(heap: Global, input: R) -> io::Result<Vec<u8>>
-    ensures { IfOk result (λ bytes. IfSome (R.remaining input) (λ all. bytes.items ≡ take MOST_INPUT all)) }
+    ensures { IfOk result (λ bytes. IfSome (option_map (take MOST_INPUT) (R.remaining input)) (λ first. bytes.items ≡ first)) }
 {
     let mut bytes = Vec::new(heap);
     input.take(MOST_INPUT).read_to_end(&mut bytes)?;
