@@ -20,7 +20,7 @@ use service::{Category, Fault};
 const MOST_RECORDS: usize = 2_048;
 
 /// The bytes of a reel whose header passed its tests, with that header.
-#[derive(Clone, Copy)]
+#[derive(Clone, Copy, PartialEq, Eq, Debug)]
 pub(crate) struct Layout<'a> {
     bytes: &'a [u8],
     header: Header,

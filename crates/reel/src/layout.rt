@@ -34,7 +34,7 @@ pub(crate) const RECORD_ZERO_AT: usize = 6;
 pub(crate) const RECORD_LAST_AT: usize = 7;
 
 /// The four numbers that a reel starts with.
-#[derive(Clone, Copy)]
+#[derive(Clone, Copy, PartialEq, Eq, Debug)]
 pub(crate) struct Header {
     /// How many records there are.
     pub(crate) count: usize,

@@ -25,7 +25,7 @@ pub const MOST_BYTES: usize = 65_536;
 const EMPTY: [u8; 16] = [0, 0, 0, 0, 16, 0, 0, 0, 16, 0, 0, 0, 16, 0, 0, 0];
 
 /// A reel that passed its check.
-#[derive(Clone, Copy)]
+#[derive(Clone, Copy, PartialEq, Eq, Debug)]
 pub struct Reel<'a> {
     layout: Layout<'a>,
     ghost lawful: { is_some (fault layout.bytes.now) ≡ false },
@@ -89,7 +89,7 @@ impl<'a> Reel<'a> {
 }
 
 /// The records of a reel that are left.
-#[derive(Clone, Copy)]
+#[derive(Clone, Copy, PartialEq, Eq, Debug)]
 pub struct Iter<'a> {
     reel: Reel<'a>,
     at: usize,

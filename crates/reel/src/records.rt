@@ -6,7 +6,7 @@ ghost use Rattle.reel.specs.Records.{record_is, record_of, ProperCase};
 use service::Category;
 
 /// What was recorded of one frame. The bytes of a packet are a part of the reel.
-#[derive(Clone, Copy)]
+#[derive(Clone, Copy, PartialEq, Eq, Debug)]
 pub enum Record<'a> {
     /// A frame in which no voice packet was sent.
     Blank,
