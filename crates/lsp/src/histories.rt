@@ -8,7 +8,7 @@ use crate::codes::LspCodes;
 use crate::states::Memories;
 
 /// What can happen to the memories of an end.
-#[derive(Clone, Copy)]
+#[derive(Clone, Copy, PartialEq, Eq, Debug)]
 pub enum Event {
     /// A packet was sent, or read, with these codes.
     Packet(LspCodes),
