@@ -1,4 +1,4 @@
--- Ten values by their index, and a loop that writes them one by one.
+-- Ten values by their index, and what the library's from_fn makes of ten indices.
 use Rattle.std.proofs.Common.{◌≡◌, ℕ, zero, suc, ◌+◌, ◌<◌, ◌≤◌, List, length, get_or, sym, refl, ◌∙◌, subst, inl, inr, zero-add, arith}
 use denote.Param.Members.{Mut, Called}
 use Rattle.std.specs.Array.{IsFromFnResult, IsFromFnResultFrom}
@@ -17,11 +17,6 @@ module _ {A : Type 0} (f : ℕ → A) (d : A) where
   pub is_ten : (xs : List A) → length xs ≡ 10 → ((i : ℕ) → i < 10 → get_or xs i d ≡ f i) → xs ≡ ten f
   unfolding ten
   is_ten xs long each = fill_by_all f xs 10 d long each
-
--- equal at each index, so equal
-pub ten_same : {A : Type 0} (f g : ℕ → A) (d : A) → ((i : ℕ) → i < 10 → f i ≡ g i) → ten f ≡ ten g
-unfolding ten
-ten_same f g d each = is_ten g d (ten f) refl (λ i lt. get_or_ten f d i lt ∙ each i lt)
 
 -- What the library's from_fn gives of ten indices. The closure alters none of what it holds, and answers h.
 module _ {F A : Type 0} (g : Mut F (ℕ × Unit {0}) A) (h : ℕ → A) (f : F) (call : (i : ℕ) (x : A) (f' : F) → i < 10 → Called g f (i, tt) x f' → (x ≡ h i) × (f' ≡ f)) where

@@ -73,6 +73,7 @@ impl LspCodes {
     }
 }
 
+// The codes of ten offsets.
 fn codes_of(rate: Rate, offsets: [i64; 10]) -> [u8; 10]
     ensures { result ≡ quantized rate offsets }
 {

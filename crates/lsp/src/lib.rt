@@ -51,8 +51,9 @@ mod tests {
     }
 
     #[test]
-    fn offsets_of_any_size_have_a_code(rt: HostRuntime) {
-        assert_eq!(rt; LspCodes::quantize(Rate::Eighth, [0; 10]).codes(), [1; 10]);
+    fn offsets_of_any_size_have_a_code(rt: HostRuntime) -> Result<(), Fail> {
+        let ones = LspCodes::new(Rate::Eighth, [1; 10])?;
+        assert_eq!(rt; LspCodes::quantize(Rate::Eighth, [0; 10]), ones);
         assert_eq!(rt; LspCodes::quantize(Rate::Eighth, [-1; 10]).codes(), [0; 10]);
         assert_eq!(rt;
             LspCodes::quantize(Rate::Full, [i64::MAX; 10]).codes(),
@@ -62,6 +63,7 @@ mod tests {
             LspCodes::quantize(Rate::Full, [i64::MIN; 10]).codes(),
             [0; 10]
         );
+        Ok(())
     }
 
     // The memories of LSP 1: code 15 of Rate 1 is 270,336,000, of which an erasure leaves 29/32.

@@ -15,7 +15,8 @@ pub(crate) struct Lsp {
 impl Lsp {
     ghost use Rattle.lsp.specs.declared.ten.Lsp.{Lsp};
 
-    // What f answers for each LSP, LSP 1 first. Ten answers have to fit in memory.
+    // What f answers for each LSP, LSP 1 first: `ten value`, if f answers `value i` for the LSP at index i. Ten answers have
+    // to fit in memory.
     pub(crate) fn each<T, F: Fn(Lsp) -> T>(f: F) -> [T; 10]
         requires fits { 10 * type_size T.row < 2 ^ 63 }
         requires callable { (lsp : Lsp) → F.pre f lsp }
