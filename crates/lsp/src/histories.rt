@@ -35,6 +35,7 @@ impl Memories {
 }
 
 // The memories after these events, the oldest first.
+#[tactic(auto, using(crate::proofs::Replays::after_more, crate::proofs::Replays::lawful_more))]
 fn replay_from(start: Memories, events: &[Event]) -> Memories
     ensures value { result.grains ≡ after start.grains (history events.now) }
     ensures lawful { Lawful (history events.now) }

@@ -78,25 +78,30 @@ impl Memories {
         }
     }
 
-    // D(m) of each memory.
+    // D(m) of the memory of one LSP.
     #[tactic(auto, using(crate::proofs::Decays::decay_is))]
+    fn decayed_memory(self, lsp: Lsp) -> i64
+        ensures { result ≡ decay (slice_index_or self.grains lsp.index (pos 0)) }
+    {
+        self.memory(lsp).decay()
+    }
+
     fn decayed(self) -> [i64; 10]
         ensures { result ≡ decayed self.grains }
     {
-        Lsp::each(|lsp| self.memory(lsp).decay())
+        Lsp::each(|lsp| self.decayed_memory(lsp))
     }
 
-    // v(c) + D(m) of each memory and its code.
+    // v(c) + D(m) of the code and the memory of one LSP.
+    fn updated_memory(self, lsp: Lsp, codes: LspCodes) -> i64
+        ensures { result ≡ value_of codes.rate lsp.index (slice_index codes.codes lsp.index) +ℤ decay (slice_index_or self.grains lsp.index (pos 0)) }
+    {
+        codes.value(lsp) + self.decayed_memory(lsp)
+    }
+
     fn updated(self, codes: LspCodes) -> [i64; 10]
         ensures { result ≡ updated codes.rate codes.codes self.grains }
     {
         Lsp::each(|lsp| self.updated_memory(lsp, codes))
-    }
-
-    // v(c) + D(m) of one LSP.
-    fn updated_memory(self, lsp: Lsp, codes: LspCodes) -> i64
-        ensures { result ≡ value_of codes.rate lsp.index (slice_index codes.codes lsp.index) +ℤ decay (slice_index_or self.grains lsp.index (pos 0)) }
-    {
-        codes.value(lsp) + self.memory(lsp).decay()
     }
 }

@@ -20,6 +20,9 @@ product c =
     let h : back c.from-h.result ≡ pos (half_step c.args.self.rate c.args.self.lsp.index) = omega (arith, ints) in
     rw (m, h)
 
+pub overflow_add-from : goal.overflow_add-from
+overflow_add-from c = rw (product c) (omega (arith, ints, reach c.args.self.rate c.args.self.lsp.index))
+
 pub overflow_add-from-2 : goal.overflow_add-from-2
 overflow_add-from-2 c = rw (product c) (omega (arith, ints, reach c.args.self.rate c.args.self.lsp.index))
 
