@@ -1,6 +1,6 @@
--- What the decay does, and that a memory stays in range. Only decay_is, rounds_below and rounds_greatest look
--- into the definition of the decay. The range here, and the laws over histories, rest on decay_law.
-use Rattle.std.proofs.Common.{◌≡◌, ℕ, ◌^◌, ◌<◌, ◌≤◌, ℤ, pos, negsuc, ◌+ℤ◌, ◌*ℤ◌, nat_abs, ◌≤ℤ◌, ◌<ℤ◌, refl, arith}
+-- What the decay does, and that a memory stays in range. Only decay_is, rounds_below and rounds_greatest look into
+-- the definition of the decay. The range here, and the laws over histories, rest on decay_law.
+use Rattle.std.proofs.Common.{◌≡◌, ℕ, ◌^◌, ◌<◌, ◌≤◌, ℤ, pos, negsuc, ◌+ℤ◌, ◌*ℤ◌, nat_abs, ◌≤ℤ◌, ◌<ℤ◌, refl, ◌∙◌, arith}
 use Rattle.std.specs.Int.{int_div_euclid}
 use Rattle.std.proofs.lemmas.Int.{ints}
 use Rattle.lsp.specs.Decay.{decay_rule, decay, DecayLaw}
@@ -30,6 +30,10 @@ decay_law m =
     omega (arith, ints)
 
 -- ---- the range
+
+-- the decay of a memory is small enough to be a memory
+pub decay_small : (m d : ℤ) → d ≡ decay_rule m → nat_abs m < 2 ^ 33 → nat_abs d < 2 ^ 33
+decay_small m d e h = omega (arith, ints, e ∙ decay_is m, decay_law m)
 
 pub bound_most : (i : ℕ) → bound i ≤ 2 ^ 33
 unfolding bound

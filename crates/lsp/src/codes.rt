@@ -1,5 +1,5 @@
 //! The ten LSP codes of a packet.
-ghost use Rattle.std.specs.Prelude.{◌≡◌, MatchResult, slice_index};
+ghost use Rattle.std.specs.Prelude.{◌≡◌, ◌≤◌, MatchResult, slice_index, unsigned_abs};
 ghost use Rattle.service.specs.Refusals.{refusal_is, refused};
 ghost use Rattle.lsp.specs.Quantizers.{Within, quantized, value_of, values};
 
@@ -61,9 +61,11 @@ impl LspCodes {
         Lsp::each(|lsp| self.value(lsp))
     }
 
-    // The value of the code of one LSP.
+    // The value of the code of one LSP, at most 70 × 165 × 65,536 grains in size.
+    #[tactic(auto, using(crate::proofs::Sizes::value_most))]
     pub(crate) fn value(self, lsp: Lsp) -> i64
-        ensures { result ≡ value_of self.rate lsp.index (slice_index self.codes lsp.index) }
+        ensures value { result ≡ value_of self.rate lsp.index (slice_index self.codes lsp.index) }
+        ensures size { unsigned_abs result ≤ 756940800 }
     {
         Quantizer {
             rate: self.rate,

@@ -34,24 +34,16 @@ impl Memories {
     }
 }
 
-// The memories after these events, the oldest first.
-#[tactic(auto, using(crate::proofs::Replays::after_more, crate::proofs::Replays::lawful_more))]
-fn replay_from(start: Memories, events: &[Event]) -> Memories
-    ensures value { result.grains ≡ after start.grains (history events.now) }
-    ensures lawful { Lawful (history events.now) }
-{
-    let mut memories = start;
-    for event in events {
-        memories.apply(*event);
-    }
-    memories
-}
-
 /// The memories of a new end after these events, the oldest first. Their codes are within their rates, so that the laws on
 /// lawful histories hold of them.
+#[tactic(auto, using(crate::proofs::Replays::after_more, crate::proofs::Replays::lawful_more))]
 pub fn replay(events: &[Event]) -> Memories
     ensures value { result.grains ≡ after fresh (history events.now) }
     ensures lawful { Lawful (history events.now) }
 {
-    replay_from(Memories::new(), events)
+    let mut memories = Memories::new();
+    for event in events {
+        memories.apply(*event);
+    }
+    memories
 }

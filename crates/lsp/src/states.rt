@@ -79,24 +79,26 @@ impl Memories {
     }
 
     // D(m) of the memory of one LSP.
-    #[tactic(auto, using(crate::proofs::Decays::decay_is))]
-    fn decayed_memory(self, lsp: Lsp) -> i64
-        ensures { result ≡ decay (slice_index_or self.grains lsp.index (pos 0)) }
+    #[tactic(auto, using(crate::proofs::Decays::decay_is, crate::proofs::Decays::decay_small))]
+    fn decayed_memory(self, lsp: Lsp) -> Memory
+        ensures { result.grains ≡ decay (slice_index_or self.grains lsp.index (pos 0)) }
     {
-        self.memory(lsp).decay()
+        Memory {
+            grains: self.memory(lsp).decay(),
+        }
     }
 
     fn decayed(self) -> [i64; 10]
         ensures { result ≡ decayed self.grains }
     {
-        Lsp::each(|lsp| self.decayed_memory(lsp))
+        Lsp::each(|lsp| self.decayed_memory(lsp).grains)
     }
 
     // v(c) + D(m) of the code and the memory of one LSP.
     fn updated_memory(self, lsp: Lsp, codes: LspCodes) -> i64
         ensures { result ≡ value_of codes.rate lsp.index (slice_index codes.codes lsp.index) +ℤ decay (slice_index_or self.grains lsp.index (pos 0)) }
     {
-        codes.value(lsp) + self.decayed_memory(lsp)
+        codes.value(lsp) + self.decayed_memory(lsp).grains
     }
 
     fn updated(self, codes: LspCodes) -> [i64; 10]
