@@ -1,9 +1,9 @@
--- What the decay does, and that a memory stays in range. Only decay_is, rounds_below and rounds_greatest look into
--- the definition of the decay. The range here, and the laws over histories, rest on decay_law.
+-- What the decay does, and that a memory stays in range. Only decay_is and rounds_down look into the definition of the
+-- decay. The range here, and the laws over histories, rest on decay_law.
 use Rattle.std.proofs.Common.{◌≡◌, ℕ, ◌^◌, ◌<◌, ◌≤◌, ℤ, pos, negsuc, ◌+ℤ◌, ◌*ℤ◌, nat_abs, ◌≤ℤ◌, ◌<ℤ◌, refl, ◌∙◌, arith}
 use Rattle.std.specs.Int.{int_div_euclid}
 use Rattle.std.proofs.lemmas.Int.{ints}
-use Rattle.lsp.specs.Decay.{decay_rule, decay, DecayLaw}
+use Rattle.lsp.specs.Decay.{decay_rule, decay, DecayLaw, RoundsDown}
 use Rattle.lsp.specs.States.{bound}
 
 -- the quotient rounded down
@@ -15,13 +15,18 @@ pub decay_is : (m : ℤ) → decay_rule m ≡ decay m
 unfolding decay
 decay_is m = refl
 
-pub rounds_below : (m : ℤ) → (pos 32 *ℤ decay m) ≤ℤ (pos 29 *ℤ m +ℤ pos 16)
+pub rounds_down : (m : ℤ) → RoundsDown m
 unfolding decay
-rounds_below m = (floored (pos 29 *ℤ m +ℤ pos 16) 32 (omega arith)).0
+rounds_down m =
+    let f = floored (pos 29 *ℤ m +ℤ pos 16) 32 (omega arith) in
+    record { below = f.0; greatest = f.1 }
+
+-- its two parts, in the form that the check can apply
+pub rounds_below : (m : ℤ) → (pos 32 *ℤ decay m) ≤ℤ (pos 29 *ℤ m +ℤ pos 16)
+rounds_below m = (rounds_down m).below
 
 pub rounds_greatest : (m : ℤ) → (pos 29 *ℤ m +ℤ pos 16) <ℤ (pos 32 *ℤ decay m +ℤ pos 32)
-unfolding decay
-rounds_greatest m = (floored (pos 29 *ℤ m +ℤ pos 16) 32 (omega arith)).1
+rounds_greatest m = (rounds_down m).greatest
 
 pub decay_law : DecayLaw
 decay_law m =
