@@ -1,6 +1,6 @@
 -- What the decay does, and that a memory stays in range. Only decay_is and rounds_down look into the definition of the
 -- decay. The range here, and the laws over histories, rest on decay_law.
-use Rattle.std.proofs.Common.{◌≡◌, ℕ, ◌^◌, ◌<◌, ◌≤◌, ℤ, pos, negsuc, ◌+ℤ◌, ◌*ℤ◌, nat_abs, ◌≤ℤ◌, ◌<ℤ◌, refl, arith}
+use Rattle.std.proofs.Common.{◌≡◌, ℕ, ◌^◌, ◌<◌, ◌≤◌, ℤ, pos, negsuc, ◌+ℤ◌, ◌*ℤ◌, nat_abs, ◌≤ℤ◌, ◌<ℤ◌, refl, ◌∙◌, arith}
 use Rattle.std.specs.Int.{int_div_euclid}
 use Rattle.std.proofs.lemmas.Int.{ints}
 use Rattle.lsp.specs.Decay.{decay_rule, decay, DecayLaw, RoundsDown}
@@ -21,14 +21,24 @@ rounds_down m =
     let f = floored (pos 29 *ℤ m +ℤ pos 16) 32 (omega arith) in
     record { below = f.0; greatest = f.1 }
 
+-- its two parts, in the form that the check can apply
+pub rounds_below : (m : ℤ) → (pos 32 *ℤ decay m) ≤ℤ (pos 29 *ℤ m +ℤ pos 16)
+rounds_below m = (rounds_down m).below
+
+pub rounds_greatest : (m : ℤ) → (pos 29 *ℤ m +ℤ pos 16) <ℤ (pos 32 *ℤ decay m +ℤ pos 32)
+rounds_greatest m = (rounds_down m).greatest
+
 pub decay_law : DecayLaw
 decay_law m =
-    let f = rounds_down m in
-    let l = f.below in
-    let g = f.greatest in
+    let l = rounds_below m in
+    let g = rounds_greatest m in
     omega (arith, ints)
 
 -- ---- the range
+
+-- the decay of a memory is small enough to be a memory
+pub decay_small : (m d : ℤ) → d ≡ decay_rule m → nat_abs m < 2 ^ 33 → nat_abs d < 2 ^ 33
+decay_small m d e h = omega (arith, ints, e ∙ decay_is m, decay_law m)
 
 pub bound_most : (i : ℕ) → bound i ≤ 2 ^ 33
 unfolding bound

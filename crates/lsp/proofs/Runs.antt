@@ -19,8 +19,8 @@ use Rattle.lsp.proofs.Ranges.{fresh_in, decayed_in, updated_in}
 
 pub stays_in_range : StaysInRange
 stays_in_range m h [] l = h
-stays_in_range m h (packet rate codes ∷ past) l = updated_in rate codes l.0 (after m past) (stays_in_range m h past l.1)
-stays_in_range m h (erasure ∷ past) l = decayed_in (after m past) (stays_in_range m h past l)
+stays_in_range m h (packet rate codes ∷ past) l = updated_in rate codes (after m past) _ refl l.0 (stays_in_range m h past l.1)
+stays_in_range m h (erasure ∷ past) l = decayed_in (after m past) _ refl (stays_in_range m h past l)
 stays_in_range m h (blank ∷ past) l = stays_in_range m h past l
 stays_in_range m h (restart ∷ past) l = fresh_in
 

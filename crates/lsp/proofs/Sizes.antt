@@ -1,8 +1,8 @@
 -- How large the values of codes are, and products of whole numbers.
-use Rattle.std.proofs.Common.{◌≡◌, ℕ, zero, suc, ◌*◌, ◌≤◌, List, [], ◌∷◌, get_or, ℤ, pos, negsuc, ◌+ℤ◌, ◌-ℤ◌, ◌*ℤ◌, neg_ℤ, nat_abs, ap, ◌∙◌, mul-le-mul_right, add-mul, zero-mul, arith}
+use Rattle.std.proofs.Common.{◌≡◌, ℕ, zero, suc, ◌*◌, ◌≤◌, List, [], ◌∷◌, get_or, ℤ, pos, ◌+ℤ◌, ◌-ℤ◌, ◌*ℤ◌, neg_ℤ, nat_abs, ap, ◌∙◌, mul-le-mul_right, add-mul, zero-mul, arith}
 use borrow.Author.Differences.{sum_is_lem}
 use Rattle.std.specs.List.{AllByRecursion as All}
-use Rattle.std.proofs.lemmas.Int.{ints, clamps}
+use Rattle.std.proofs.lemmas.Int.{ints, clamps, unsigned_abs-mul}
 use Rattle.service.specs.declared.rates.Rate.{Rate}
 use Rattle.service.specs.declared.rates.Rate.TheVariants.{Full, Half, Quarter, Eighth}
 use Rattle.lsp.specs.Quantizers.{levels, top_code, half_step, value_of, limited}
@@ -25,13 +25,15 @@ reach Half i = omega (arith, level_most Half i)
 reach Quarter i = omega (arith, level_most Quarter i)
 reach Eighth i = omega (arith, level_most Eighth i)
 
-times_most : (d : ℤ) (k h : ℕ) → nat_abs d ≤ k → nat_abs (d *ℤ pos h) ≤ k * h
-times_most (pos a) k h e = mul-le-mul_right h e
-times_most (negsuc a) k h e = omega (arith, ints, mul-le-mul_right h e)
-
 pub value_most : (rate : Rate) (i c : ℕ) → c ≤ top_code rate → nat_abs (value_of rate i c) ≤ 756940800
 value_most rate i c h =
-    omega (arith, times_most (pos (2 * c) -ℤ pos (top_code rate)) (top_code rate) (half_step rate i) (omega (arith, ints)), reach rate i)
+    let d : nat_abs (pos (2 * c) -ℤ pos (top_code rate)) ≤ top_code rate = omega (arith, ints) in
+    omega (
+      arith,
+      unsigned_abs-mul (pos (2 * c) -ℤ pos (top_code rate)) (pos (half_step rate i)),
+      mul-le-mul_right (half_step rate i) d,
+      reach rate i,
+    )
 
 -- limited from above and from below, the number is at most the limit
 pub limited_most : (rate : Rate) (n : ℤ) → limited rate n ≤ top_code rate

@@ -1,5 +1,8 @@
--- Ten values by their index, and a loop that writes them one by one.
-use Rattle.std.proofs.Common.{◌≡◌, ℕ, ◌+◌, ◌<◌, ◌≤◌, ◌≢◌, List, length, get_or, set, sym, refl, ◌∙◌, subst, zero-add, arith, length-set, get_or-set_other, get_or-set_same, below_more}
+-- Ten values by their index, and what the library's from_fn makes of ten indices.
+use Rattle.std.proofs.Common.{◌≡◌, ℕ, zero, suc, ◌+◌, ◌<◌, ◌≤◌, List, length, get_or, sym, refl, ◌∙◌, subst, inl, inr, zero-add, arith}
+use denote.Param.Members.{Mut, Called}
+use Rattle.std.specs.Array.{IsFromFnResult, IsFromFnResultFrom}
+use Rattle.std.proofs.lemmas.Bool.{cases_lt}
 use Rattle.std.proofs.lemmas.List.FromFn.{get_or-map-range_with_len, fill_by_all}
 use Rattle.lsp.specs.Ten.{ten}
 
@@ -15,23 +18,16 @@ module _ {A : Type 0} (f : ℕ → A) (d : A) where
   unfolding ten
   is_ten xs long each = fill_by_all f xs 10 d long each
 
-  -- the first n of ten are written
-  abbrev pub Filled : ℕ → List A → Type 0
-  Filled n xs = (length xs ≡ 10) × ((i : ℕ) → i < n → get_or xs i d ≡ f i)
+-- What the library's from_fn gives of ten indices. The closure alters none of what it holds, and answers h.
+module _ {F A : Type 0} (g : Mut F (ℕ × Unit {0}) A) (h : ℕ → A) (f : F) (call : (i : ℕ) (x : A) (f' : F) → i < 10 → Called g f (i, tt) x f' → (x ≡ h i) × (f' ≡ f)) where
+  calls_give : (d : A) (xs : List A) (n i : ℕ) → i + n ≡ 10 → IsFromFnResultFrom g f xs i n → (k : ℕ) → i ≤ k → k < 10 → get_or xs k d ≡ h k
+  calls_give d xs zero i e r k le lt = absurd (omega arith)
+  calls_give d xs (suc n) i e (f', x, is, called, rest) k le lt =
+      let this = call i x f' (omega arith) called in
+      elim (cases_lt i k) [
+        | inl l ↦ calls_give d xs n (i + 1) (omega arith) (subst (λ p. IsFromFnResultFrom g p xs (i + 1) n) this.1 rest) k (omega arith) lt
+        | inr o ↦ let same : i ≡ k = omega arith in subst (λ j. get_or xs j d ≡ h j) same (is.1 d ∙ this.0)
+      ]
 
-  pub filled_more : (n : ℕ) (xs : List A) (v : A) → n < 10 → Filled n xs → v ≡ f n → Filled (n + 1) (set xs n v)
-  filled_more n xs v lt (long, each) e =
-      let h : n < length xs = omega arith in (
-        length-set xs n v ∙ long,
-        below_more (λ k. get_or (set xs n v) k d ≡ f k) n
-            (λ k b. let ne : k ≢ n = omega arith in rw get_or-set_other (each k b))
-            (rw get_or-set_same e),
-      )
-
-  pub filled_all : (n : ℕ) (xs : List A) → 10 ≤ n → Filled n xs → xs ≡ ten f
-  filled_all n xs le (long, each) = is_ten xs long (λ i lt. each i (omega arith))
-
--- equal at each index, so equal
-pub ten_same : {A : Type 0} (f g : ℕ → A) (d : A) → ((i : ℕ) → i < 10 → f i ≡ g i) → ten f ≡ ten g
-unfolding ten
-ten_same f g d each = is_ten g d (ten f) refl (λ i lt. get_or_ten f d i lt ∙ each i lt)
+  pub from_fn_ten : (xs : List A) → IsFromFnResult g f xs 10 → xs ≡ ten h
+  from_fn_ten xs r = is_ten h r.each.1 xs r.long (λ k lt. calls_give r.each.1 xs 10 0 refl r.each k (omega arith) lt)

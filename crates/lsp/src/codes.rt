@@ -1,13 +1,14 @@
 //! The ten LSP codes of a packet.
-ghost use Rattle.std.specs.Prelude.{◌≡◌, ◌<◌, MatchResult};
+ghost use Rattle.std.specs.Prelude.{◌≡◌, ◌≤◌, MatchResult, slice_index, unsigned_abs};
 ghost use Rattle.service.specs.Refusals.{refusal_is, refused};
-ghost use Rattle.lsp.specs.Quantizers.{Within, quantized, values};
+ghost use Rattle.lsp.specs.Quantizers.{Within, quantized, value_of, values};
 
-use crate::quantizers::{code, top_code, value};
+use crate::quantizers::{Quantizer, top_code};
+use crate::ten::Lsp;
 use service::{Rate, Refusal};
 
 /// Ten LSP codes with their rate, LSP 1 first, none above the rate's top code.
-#[derive(Clone, Copy)]
+#[derive(Clone, Copy, PartialEq, Eq, Debug)]
 pub struct LspCodes {
     rate: Rate,
     codes: [u8; 10],
@@ -20,15 +21,14 @@ impl LspCodes {
         ensures { MatchResult result (λ l. (l.rate ≡ rate) × (l.codes ≡ codes))
             (λ e. (refusal_is e ≡ refused 17) × (Within rate codes → ⊥)) }
     {
-        for i in 0..10 {
-            if codes[i] > top_code(rate) {
-                return Err(Refusal::Codes);
-            }
+        if codes.iter().any(|c| *c > top_code(rate)) {
+            return Err(Refusal::Codes);
         }
         Ok(LspCodes { rate, codes })
     }
 
     /// The codes of ten offsets, LSP 1 first. No other code of the rate has a value nearer to its offset: `nearest_code`.
+    #[tactic(auto, using(crate::proofs::Ranges::quantized_within))]
     pub fn quantize(rate: Rate, offsets: [i64; 10]) -> LspCodes
         ensures rate { result.rate ≡ rate }
         ensures codes { result.codes ≡ quantized rate offsets }
@@ -58,28 +58,26 @@ impl LspCodes {
     pub fn values(self) -> [i64; 10]
         ensures { result ≡ values self.rate self.codes }
     {
-        values_of(self.rate, self.codes)
+        Lsp::each(|lsp| self.value(lsp))
+    }
+
+    // The value of the code of one LSP, at most 70 × 165 × 65,536 grains in size.
+    #[tactic(auto, using(crate::proofs::Sizes::value_most))]
+    pub(crate) fn value(self, lsp: Lsp) -> i64
+        ensures value { result ≡ value_of self.rate lsp.index (slice_index self.codes lsp.index) }
+        ensures size { unsigned_abs result ≤ 756940800 }
+    {
+        Quantizer {
+            rate: self.rate,
+            lsp,
+        }
+        .value(self.codes[lsp.index])
     }
 }
 
+// The codes of ten offsets.
 fn codes_of(rate: Rate, offsets: [i64; 10]) -> [u8; 10]
-    ensures value { result ≡ quantized rate offsets }
-    ensures within { Within rate result }
+    ensures { result ≡ quantized rate offsets }
 {
-    let mut codes = [0; 10];
-    for i in 0..10 {
-        codes[i] = code(rate, i, offsets[i]);
-    }
-    codes
-}
-
-fn values_of(rate: Rate, codes: [u8; 10]) -> [i64; 10]
-    requires { Within rate codes }
-    ensures { result ≡ values rate codes }
-{
-    let mut values = [0; 10];
-    for i in 0..10 {
-        values[i] = value(rate, i, codes[i]);
-    }
-    values
+    Lsp::each(|lsp| Quantizer { rate, lsp }.code(offsets[lsp.index]))
 }

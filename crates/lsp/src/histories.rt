@@ -8,7 +8,7 @@ use crate::codes::LspCodes;
 use crate::states::Memories;
 
 /// What can happen to the memories of an end.
-#[derive(Clone, Copy)]
+#[derive(Clone, Copy, PartialEq, Eq, Debug)]
 pub enum Event {
     /// A packet was sent, or read, with these codes.
     Packet(LspCodes),
@@ -34,23 +34,16 @@ impl Memories {
     }
 }
 
-// The memories after these events, the oldest first.
-fn replay_from(start: Memories, events: &[Event]) -> Memories
-    ensures value { result.grains ≡ after start.grains (history events.now) }
-    ensures lawful { Lawful (history events.now) }
-{
-    let mut memories = start;
-    for event in events {
-        memories.apply(*event);
-    }
-    memories
-}
-
 /// The memories of a new end after these events, the oldest first. Their codes are within their rates, so that the laws on
 /// lawful histories hold of them.
+#[tactic(auto, using(crate::proofs::Replays::after_more, crate::proofs::Replays::lawful_more))]
 pub fn replay(events: &[Event]) -> Memories
     ensures value { result.grains ≡ after fresh (history events.now) }
     ensures lawful { Lawful (history events.now) }
 {
-    replay_from(Memories::new(), events)
+    let mut memories = Memories::new();
+    for event in events {
+        memories.apply(*event);
+    }
+    memories
 }

@@ -8,6 +8,7 @@ mod histories;
 mod laws;
 mod quantizers;
 mod states;
+mod ten;
 
 pub use codes::LspCodes;
 pub use histories::{Event, replay};
@@ -50,8 +51,9 @@ mod tests {
     }
 
     #[test]
-    fn offsets_of_any_size_have_a_code(rt: HostRuntime) {
-        assert_eq!(rt; LspCodes::quantize(Rate::Eighth, [0; 10]).codes(), [1; 10]);
+    fn offsets_of_any_size_have_a_code(rt: HostRuntime) -> Result<(), Fail> {
+        let ones = LspCodes::new(Rate::Eighth, [1; 10])?;
+        assert_eq!(rt; LspCodes::quantize(Rate::Eighth, [0; 10]), ones);
         assert_eq!(rt; LspCodes::quantize(Rate::Eighth, [-1; 10]).codes(), [0; 10]);
         assert_eq!(rt;
             LspCodes::quantize(Rate::Full, [i64::MAX; 10]).codes(),
@@ -61,30 +63,24 @@ mod tests {
             LspCodes::quantize(Rate::Full, [i64::MIN; 10]).codes(),
             [0; 10]
         );
+        Ok(())
     }
 
     // The memories of LSP 1: code 15 of Rate 1 is 270,336,000, of which an erasure leaves 29/32.
     #[test]
     fn events_are_replayed(rt: HostRuntime) -> Result<(), Fail> {
-        let Ok(codes) = LspCodes::new(Rate::Full, [15; 10]) else {
-            return Err(Fail::new("a code is too large"));
-        };
+        let codes = LspCodes::new(Rate::Full, [15; 10])?;
         let mut events = [Event::Packet(codes), Event::Blank, Event::Erasure];
         assert_eq!(rt; replay(&events).grains()[0], 244_992_000);
         assert_eq!(rt; replay(&events).frequencies()[0], 736_512_000);
         events[2] = Event::Restart;
-        assert_eq!(rt; replay(&events).grains(), Memories::new().grains());
+        assert_eq!(rt; replay(&events), Memories::new());
         Ok(())
     }
 
     #[test]
-    fn a_code_too_wide_is_refused(rt: HostRuntime) -> Result<(), Fail> {
-        match LspCodes::new(Rate::Half, [3, 3, 3, 3, 3, 3, 3, 3, 3, 4]) {
-            Ok(_) => Err(Fail::new("code 4 was taken")),
-            Err(refusal) => {
-                assert_eq!(rt; refusal.number(), 17);
-                Ok(())
-            },
-        }
+    fn a_code_too_wide_is_refused(rt: HostRuntime) {
+        let refused = LspCodes::new(Rate::Half, [3, 3, 3, 3, 3, 3, 3, 3, 3, 4]);
+        assert_eq!(rt; refused.err().map(|r| r.number()), Some(17));
     }
 }

@@ -2,6 +2,7 @@
 ghost use Rattle.std.specs.Prelude.{◌≡◌, ◌<◌, ◌≤◌, pos, slice_index};
 ghost use Rattle.lsp.specs.Quantizers.{code_of, half_step, levels, limited, step_of, top_code, value_of};
 
+use crate::ten::Lsp;
 use service::Rate;
 
 // The largest levels of LSP 1 to 10, in thousandths of the sampling frequency.
@@ -16,17 +17,6 @@ const UNITS_PER_THOUSANDTH: i64 = 165;
 
 const GRAINS_PER_UNIT: i64 = 65_536;
 
-fn level(rate: Rate, i: usize) -> i64
-    requires { i < 10 }
-    ensures { result ≡ pos (slice_index (levels rate) i) }
-{
-    match rate {
-        Rate::Full => FULL_RATE_LEVELS[i],
-        Rate::Half => HALF_RATE_LEVELS[i],
-        Rate::Quarter | Rate::Eighth => LOW_RATE_LEVELS[i],
-    }
-}
-
 /// The top code M of a rate: its LSP codes are 0 to M.
 pub fn top_code(rate: Rate) -> u8
     ensures { result ≡ top_code rate }
@@ -38,33 +28,6 @@ pub fn top_code(rate: Rate) -> u8
     }
 }
 
-// The half step h of the LSP at index i.
-fn half_step(rate: Rate, i: usize) -> i64
-    requires { i < 10 }
-    ensures { result ≡ pos (half_step rate i) }
-{
-    level(rate, i) * (UNITS_PER_THOUSANDTH / i64::from(top_code(rate))) * GRAINS_PER_UNIT
-}
-
-// The value of the code c, v(c).
-pub(crate) fn value(rate: Rate, i: usize, c: u8) -> i64
-    requires { (i < 10) × (c ≤ top_code rate) }
-    ensures { result ≡ value_of rate i c }
-{
-    (2 * i64::from(c) - i64::from(top_code(rate))) * half_step(rate, i)
-}
-
-// The code of the offset w before it is limited, below 0 or above M for offsets beyond the quantizer's reach. In 128 bits
-// no offset is too large.
-fn step_number(rate: Rate, i: usize, w: i64) -> i128
-    requires { i < 10 }
-    ensures { result ≡ step_of rate i w }
-{
-    let h = i128::from(half_step(rate, i));
-    let m = i128::from(top_code(rate));
-    (i128::from(w) + m * h + h).div_euclid(2 * h)
-}
-
 // A number limited to the codes of a rate.
 fn limit(rate: Rate, n: i128) -> u8
     ensures { result ≡ limited rate n }
@@ -72,10 +35,53 @@ fn limit(rate: Rate, n: i128) -> u8
     n.clamp(0, i128::from(top_code(rate))) as u8
 }
 
-// The code of the offset w.
-pub(crate) fn code(rate: Rate, i: usize, w: i64) -> u8
-    requires { i < 10 }
-    ensures { result ≡ code_of rate i w }
-{
-    limit(rate, step_number(rate, i, w))
+// The quantizer of one LSP at one rate.
+#[derive(Clone, Copy)]
+pub(crate) struct Quantizer {
+    pub(crate) rate: Rate,
+    pub(crate) lsp: Lsp,
+}
+
+impl Quantizer {
+    fn level(self) -> i64
+        ensures { result ≡ pos (slice_index (levels self.rate) self.lsp.index) }
+    {
+        match self.rate {
+            Rate::Full => FULL_RATE_LEVELS[self.lsp.index],
+            Rate::Half => HALF_RATE_LEVELS[self.lsp.index],
+            Rate::Quarter | Rate::Eighth => LOW_RATE_LEVELS[self.lsp.index],
+        }
+    }
+
+    // The half step h.
+    fn half_step(self) -> i64
+        ensures { result ≡ pos (half_step self.rate self.lsp.index) }
+    {
+        self.level() * (UNITS_PER_THOUSANDTH / i64::from(top_code(self.rate))) * GRAINS_PER_UNIT
+    }
+
+    // The value of the code c, v(c).
+    pub(crate) fn value(self, c: u8) -> i64
+        requires { c ≤ top_code self.rate }
+        ensures { result ≡ value_of self.rate self.lsp.index c }
+    {
+        (2 * i64::from(c) - i64::from(top_code(self.rate))) * self.half_step()
+    }
+
+    // The code of the offset w before it is limited, below 0 or above M for offsets beyond the quantizer's reach. In 128
+    // bits no offset is too large.
+    fn step_number(self, w: i64) -> i128
+        ensures { result ≡ step_of self.rate self.lsp.index w }
+    {
+        let h = i128::from(self.half_step());
+        let m = i128::from(top_code(self.rate));
+        (i128::from(w) + m * h + h).div_euclid(2 * h)
+    }
+
+    // The code of the offset w.
+    pub(crate) fn code(self, w: i64) -> u8
+        ensures { result ≡ code_of self.rate self.lsp.index w }
+    {
+        limit(self.rate, self.step_number(w))
+    }
 }

@@ -1,29 +1,24 @@
 //! The ten LSP memories of an end.
-ghost use Rattle.std.specs.Prelude.{◌≡◌, ℕ, ◌^◌, ◌<◌, pos, slice_index_or, unsigned_abs};
-ghost use Rattle.lsp.specs.States.{InRange, bias, decayed, frequencies, fresh, sums, updated};
-ghost use Rattle.lsp.specs.Ten.{ten};
+ghost use Rattle.std.specs.Prelude.{◌≡◌, pos, ◌+ℤ◌, slice_index, slice_index_or};
+ghost use Rattle.lsp.specs.Decay.{decay};
+ghost use Rattle.lsp.specs.Quantizers.{value_of};
+ghost use Rattle.lsp.specs.States.{InRange, bias, decayed, frequencies, fresh, updated};
 
 use crate::codes::LspCodes;
 use crate::decay::Memory;
+use crate::ten::Lsp;
 
 // The bias of LSP 1; that of LSP i is i times as large.
 const BIAS: i64 = 491_520_000;
 
-const BIASES: [i64; 10] = [
-    BIAS,
-    2 * BIAS,
-    3 * BIAS,
-    4 * BIAS,
-    5 * BIAS,
-    6 * BIAS,
-    7 * BIAS,
-    8 * BIAS,
-    9 * BIAS,
-    10 * BIAS,
-];
+fn bias(lsp: Lsp) -> i64
+    ensures { result ≡ bias lsp.index }
+{
+    (lsp.index as i64 + 1) * BIAS
+}
 
 /// The LSP memories of an end, in grains, LSP 1 first. None reaches 2^33 in size.
-#[derive(Clone, Copy)]
+#[derive(Clone, Copy, PartialEq, Eq, Debug)]
 pub struct Memories {
     grains: [i64; 10],
     ghost in_range: { InRange grains },
@@ -31,27 +26,30 @@ pub struct Memories {
 
 impl Memories {
     /// The memories of an end that is new or restarted: all are 0.
+    #[tactic(auto, using(crate::proofs::Ranges::fresh_in), unfolding(crate::specs::Ten::ten))]
     pub fn new() -> Memories
         ensures { result.grains ≡ fresh }
     {
-        Memories { grains: zeros() }
+        Memories { grains: [0; 10] }
     }
 
     /// Updates the memories by a packet with these codes: m becomes v(c) + D(m).
+    #[tactic(auto, using(crate::proofs::Ranges::updated_in))]
     pub fn update(&mut self, codes: LspCodes)
         ensures { self.new.grains ≡ updated codes.rate codes.codes self.old.grains }
     {
         *self = Memories {
-            grains: update_all(self.grains, codes),
+            grains: self.updated(codes),
         };
     }
 
     /// Updates the memories by an erasure: m becomes D(m).
+    #[tactic(auto, using(crate::proofs::Ranges::decayed_in))]
     pub fn decay(&mut self)
         ensures { self.new.grains ≡ decayed self.old.grains }
     {
         *self = Memories {
-            grains: decay_all(self.grains),
+            grains: self.decayed(),
         };
     }
 
@@ -67,59 +65,45 @@ impl Memories {
     pub fn frequencies(self) -> [i64; 10]
         ensures { result ≡ frequencies self.grains }
     {
-        frequencies_of(self.grains)
+        Lsp::each(|lsp| bias(lsp) + self.memory(lsp).grains)
     }
-}
 
-fn zeros() -> [i64; 10]
-    ensures value { result ≡ fresh }
-    ensures range { InRange result }
-{
-    [0; 10]
-}
-
-fn biases() -> [i64; 10]
-    ensures { result ≡ ten bias }
-{
-    BIASES
-}
-
-// The sums of ten pairs of numbers, small enough that no sum leaves 64 bits.
-fn add_all(a: [i64; 10], b: [i64; 10]) -> [i64; 10]
-    requires first { (i : ℕ) → i < 10 → unsigned_abs (slice_index_or a i (pos 0)) < 2 ^ 62 }
-    requires second { (i : ℕ) → i < 10 → unsigned_abs (slice_index_or b i (pos 0)) < 2 ^ 62 }
-    ensures { result ≡ sums a b }
-{
-    let mut all = [0; 10];
-    for i in 0..10 {
-        all[i] = a[i] + b[i];
+    // The memory of one LSP.
+    #[tactic(auto, using(crate::proofs::Decays::bound_most))]
+    fn memory(self, lsp: Lsp) -> Memory
+        ensures { result.grains ≡ slice_index_or self.grains lsp.index (pos 0) }
+    {
+        Memory {
+            grains: self.grains[lsp.index],
+        }
     }
-    all
-}
 
-fn decay_all(m: [i64; 10]) -> [i64; 10]
-    requires { InRange m }
-    ensures value { result ≡ decayed m }
-    ensures range { InRange result }
-{
-    let mut all = [0; 10];
-    for i in 0..10 {
-        all[i] = Memory { grains: m[i] }.decay();
+    // D(m) of the memory of one LSP.
+    #[tactic(auto, using(crate::proofs::Decays::decay_is, crate::proofs::Decays::decay_small))]
+    fn decayed_memory(self, lsp: Lsp) -> Memory
+        ensures { result.grains ≡ decay (slice_index_or self.grains lsp.index (pos 0)) }
+    {
+        Memory {
+            grains: self.memory(lsp).decay(),
+        }
     }
-    all
-}
 
-fn update_all(m: [i64; 10], codes: LspCodes) -> [i64; 10]
-    requires { InRange m }
-    ensures value { result ≡ updated codes.rate codes.codes m }
-    ensures range { InRange result }
-{
-    add_all(codes.values(), decay_all(m))
-}
+    fn decayed(self) -> [i64; 10]
+        ensures { result ≡ decayed self.grains }
+    {
+        Lsp::each(|lsp| self.decayed_memory(lsp).grains)
+    }
 
-fn frequencies_of(m: [i64; 10]) -> [i64; 10]
-    requires { InRange m }
-    ensures { result ≡ frequencies m }
-{
-    add_all(biases(), m)
+    // v(c) + D(m) of the code and the memory of one LSP.
+    fn updated_memory(self, lsp: Lsp, codes: LspCodes) -> i64
+        ensures { result ≡ value_of codes.rate lsp.index (slice_index codes.codes lsp.index) +ℤ decay (slice_index_or self.grains lsp.index (pos 0)) }
+    {
+        codes.value(lsp) + self.decayed_memory(lsp).grains
+    }
+
+    fn updated(self, codes: LspCodes) -> [i64; 10]
+        ensures { result ≡ updated codes.rate codes.codes self.grains }
+    {
+        Lsp::each(|lsp| self.updated_memory(lsp, codes))
+    }
 }
