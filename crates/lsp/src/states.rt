@@ -26,6 +26,7 @@ pub struct Memories {
 
 impl Memories {
     /// The memories of an end that is new or restarted: all are 0.
+    // Not Default: the clause says that they are 0, and a derived `default` would say less.
     #[tactic(auto, using(crate::proofs::Ranges::fresh_in), unfolding(crate::specs::Ten::ten))]
     pub fn new() -> Memories
         ensures { result.grains ≡ fresh }

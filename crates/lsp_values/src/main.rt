@@ -29,6 +29,7 @@ fn main(rt: HostRuntime) -> ExitCode {
 }
 
 fn run(rt: &HostRuntime) -> anyhow::Result<()> {
+    // As in reel_check: a function for both would take the help and the sentence, and leave a test of its answer here.
     if let Some(word) = env::args(rt)?.nth(1) {
         ensure!(
             word.as_str() == "--help",

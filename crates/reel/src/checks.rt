@@ -70,6 +70,7 @@ impl<'a> Layout<'a> {
         ensures lawful { MatchResult result (λ _. Lawful self.entry.bytes.now)
             (λ _. Lawful self.entry.bytes.now → ⊥) }
     {
+        // A `for` with `?`: `try_for_each` would say the same with a `map(|_| ())` more, and its contract proves less here.
         for k in 0..self.header.count {
             self.record(k)?;
         }
