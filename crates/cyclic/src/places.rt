@@ -1,5 +1,5 @@
 //! The place of a single wrong bit.
-ghost use Rattle.std.specs.Prelude.{◌≡◌, ℕ, ◌^◌, ◌<◌, ◌≤◌, MatchOption, ◌≢◌};
+ghost use Rattle.std.specs.Prelude.{◌≡◌, ℕ, ◌^◌, ◌<◌, MatchOption, ◌≢◌};
 ghost use Rattle.cyclic.specs.Polynomials.{rem};
 ghost use Rattle.cyclic.specs.Words.{Points};
 ghost use Rattle.cyclic.specs.declared.places.TheConstants.{CODE_BITS};

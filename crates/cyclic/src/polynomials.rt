@@ -1,5 +1,5 @@
 //! Division by the generator polynomial over GF(2); bit p of a number is the coefficient of x^p.
-ghost use Rattle.std.specs.Prelude.{◌≡◌, ◌^◌, ◌<◌, ◌≤◌, bit_xor};
+ghost use Rattle.std.specs.Prelude.{◌≡◌, ◌^◌, ◌<◌, bit_xor};
 ghost use Rattle.cyclic.specs.Polynomials.{Remainder, generator, rem, shift_in};
 
 // x^10 + x^9 + x^8 + x^6 + x^5 + x^3 + 1

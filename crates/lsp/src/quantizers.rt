@@ -1,5 +1,5 @@
 //! The quantizers: what a code stands for at each rate, and the code of an offset (IS-96, A.1.4.3.2.7).
-ghost use Rattle.std.specs.Prelude.{◌≡◌, ◌<◌, ◌≤◌, pos, slice_index};
+ghost use Rattle.std.specs.Prelude.{◌≡◌, ◌≤◌, pos, slice_index};
 ghost use Rattle.lsp.specs.Quantizers.{code_of, half_step, levels, limited, step_of, top_code, value_of};
 
 use crate::ten::Lsp;
