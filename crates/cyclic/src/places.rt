@@ -26,9 +26,10 @@ impl Place {
     }
 }
 
-// The power of x that leaves this remainder, or none if none of the 28 does.
+// The power of x that leaves this remainder, or none if none of the 28 does. Each is divided anew, in 28 × 32 steps at most.
 fn power_of(syndrome: u16) -> Option<u8>
-    ensures { MatchOption result ((p : ℕ) → p < CODE_BITS → rem (2 ^ p) ≢ syndrome) (λ p. (p < CODE_BITS) × (rem (2 ^ p) ≡ syndrome)) }
+    ensures { MatchOption result ((p : ℕ) → p < CODE_BITS → rem (2 ^ p) ≢ syndrome)
+        (λ p. (p < CODE_BITS) × (rem (2 ^ p) ≡ syndrome)) }
 {
     (0..CODE_BITS).find(|&power| remainder(1 << power) == syndrome)
 }

@@ -18,7 +18,7 @@ fn minus_generator(p: u16) -> u16
 }
 
 // The remainder of r(x) × x + b.
-// No type for a remainder: `remainder`, `check_bits` and `syndrome` give a u16 to any caller, so their bounds would stay.
+// No type for a remainder: `Bits<10>` has a u32, and what the public calls give is a u16, so each of them would convert.
 #[tactic(auto, using(crate::proofs::Linear::reduced_low, crate::proofs::Linear::reduced_is, crate::proofs::Linear::minus_generator_lt))]
 fn shift_in(r: u16, b: u16) -> u16
     requires { (r < 2 ^ 10) × (b < 2) }
@@ -35,7 +35,7 @@ pub fn remainder(polynomial: u32) -> u16
     ensures value { result ≡ rem polynomial }
     ensures meaning { Remainder polynomial result }
 {
-    // A `for` and no fold: a fold's closure would need `shift_in`'s bound on r proved at each call; here one invariant says it.
+    // A fold over `rev` was tried: the bound that `shift_in` needs of r at each call was not proved of its closure.
     let mut r = 0;
     for i in (0..u32::BITS).rev() {
         r = shift_in(r, (polynomial >> i & 1) as u16);

@@ -16,10 +16,6 @@ InRange m = (i : ℕ) → i < 10 → unsigned_abs (slice_index_or m i (pos 0)) <
 abbrev pub fresh : List ℤ
 fresh = ten (λ i. pos 0)
 
--- ten sums
-abbrev pub sums : List ℤ → List ℤ → List ℤ
-sums a b = ten (λ i. slice_index_or a i (pos 0) +ℤ slice_index_or b i (pos 0))
-
 -- after a packet with these codes: v(c) + D(m)
 abbrev pub updated : Rate → List ℕ → List ℤ → List ℤ
 updated rate codes m = ten (λ i. value_of rate i (slice_index codes i) +ℤ decay (slice_index_or m i (pos 0)))

@@ -1,5 +1,5 @@
 //! The ten LSP codes of a packet.
-ghost use Rattle.std.specs.Prelude.{◌≡◌, ◌≤◌, MatchResult, slice_index, unsigned_abs};
+ghost use Rattle.std.specs.Prelude.{◌≡◌, ◌*◌, ◌≤◌, MatchResult, slice_index, unsigned_abs};
 ghost use Rattle.service.specs.Refusals.{refusal_is, refused};
 ghost use Rattle.lsp.specs.Quantizers.{Within, quantized, value_of, values};
 
@@ -65,7 +65,7 @@ impl LspCodes {
     #[tactic(auto, using(crate::proofs::Sizes::value_most))]
     pub(crate) fn value(self, lsp: Lsp) -> i64
         ensures value { result ≡ value_of self.rate lsp.index (slice_index self.codes lsp.index) }
-        ensures size { unsigned_abs result ≤ 756940800 }
+        ensures size { unsigned_abs result ≤ 70 * 165 * 65536 }
     {
         Quantizer {
             rate: self.rate,

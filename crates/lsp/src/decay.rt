@@ -11,9 +11,12 @@ pub(crate) struct Memory {
 
 impl Memory {
     // D(m): (29 × m + 16) / 32 rounded down, also for negative m.
-    pub(crate) fn decay(self) -> i64
-        ensures { result ≡ decay_rule self.grains }
+    #[tactic(auto, using(crate::proofs::Decays::decay_small))]
+    pub(crate) fn decay(self) -> Memory
+        ensures { result.grains ≡ decay_rule self.grains }
     {
-        (29 * self.grains + 16).div_euclid(32)
+        Memory {
+            grains: (29 * self.grains + 16).div_euclid(32),
+        }
     }
 }

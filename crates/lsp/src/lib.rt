@@ -29,23 +29,25 @@ mod tests {
     // Around zero, at halves, and at both ends of the range.
     #[test]
     fn the_decay_rounds_down(rt: HostRuntime) {
-        assert_eq!(rt; Memory { grains: 0 }.decay(), 0);
-        assert_eq!(rt; Memory { grains: 1 }.decay(), 1);
-        assert_eq!(rt; Memory { grains: -1 }.decay(), -1);
-        assert_eq!(rt; Memory { grains: 16 }.decay(), 15);
-        assert_eq!(rt; Memory { grains: -16 }.decay(), -14);
+        assert_eq!(rt; Memory { grains: 0 }.decay().grains, 0);
+        assert_eq!(rt; Memory { grains: 1 }.decay().grains, 1);
+        assert_eq!(rt; Memory { grains: -1 }.decay().grains, -1);
+        assert_eq!(rt; Memory { grains: 16 }.decay().grains, 15);
+        assert_eq!(rt; Memory { grains: -16 }.decay().grains, -14);
         assert_eq!(rt;
             Memory {
                 grains: 8_589_934_591,
             }
-            .decay(),
+            .decay()
+            .grains,
             7_784_628_223
         );
         assert_eq!(rt;
             Memory {
                 grains: -8_589_934_591,
             }
-            .decay(),
+            .decay()
+            .grains,
             -7_784_628_223
         );
     }

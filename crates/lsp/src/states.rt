@@ -24,9 +24,17 @@ pub struct Memories {
     ghost in_range: { InRange grains },
 }
 
+impl Default for Memories {
+    ghost is_default = { λ memories. memories.grains ≡ fresh };
+
+    /// The memories of an end that is new or restarted.
+    fn default() -> Memories {
+        Memories::new()
+    }
+}
+
 impl Memories {
     /// The memories of an end that is new or restarted: all are 0.
-    // Not Default: the clause says that they are 0, and a derived `default` would say less.
     #[tactic(auto, using(crate::proofs::Ranges::fresh_in), unfolding(crate::specs::Ten::ten))]
     pub fn new() -> Memories
         ensures { result.grains ≡ fresh }
@@ -80,13 +88,11 @@ impl Memories {
     }
 
     // D(m) of the memory of one LSP.
-    #[tactic(auto, using(crate::proofs::Decays::decay_is, crate::proofs::Decays::decay_small))]
+    #[tactic(auto, using(crate::proofs::Decays::decay_is))]
     fn decayed_memory(self, lsp: Lsp) -> Memory
         ensures { result.grains ≡ decay (slice_index_or self.grains lsp.index (pos 0)) }
     {
-        Memory {
-            grains: self.memory(lsp).decay(),
-        }
+        self.memory(lsp).decay()
     }
 
     fn decayed(self) -> [i64; 10]
@@ -97,7 +103,8 @@ impl Memories {
 
     // v(c) + D(m) of the code and the memory of one LSP.
     fn updated_memory(self, lsp: Lsp, codes: LspCodes) -> i64
-        ensures { result ≡ value_of codes.rate lsp.index (slice_index codes.codes lsp.index) +ℤ decay (slice_index_or self.grains lsp.index (pos 0)) }
+        ensures { result ≡ value_of codes.rate lsp.index (slice_index codes.codes lsp.index)
+            +ℤ decay (slice_index_or self.grains lsp.index (pos 0)) }
     {
         codes.value(lsp) + self.decayed_memory(lsp).grains
     }

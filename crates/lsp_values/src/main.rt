@@ -1,7 +1,7 @@
 //! Prints what each code of LSP 1 stands for at each rate, in grains.
 #![tactic(auto)]
 
-ghost use Rattle.std.specs.Prelude.{◌≡◌, pos, IfOk, string_bytes, slice_index, slice_index_or};
+ghost use Rattle.std.specs.Prelude.{pos, Some, slice_index, slice_index_or};
 ghost use Rattle.service.specs.Rates.{rate_is};
 ghost use Rattle.lsp.specs.Quantizers.{values};
 ghost use Rattle.lsp_values.specs.Text.{row_text};
@@ -10,9 +10,8 @@ use anyhow::ensure;
 use lsp::{LspCodes, top_code};
 use program::exit_code;
 use service::Rate;
-use std::alloc::{AllocError, Global};
-use std::env;
 use std::process::ExitCode;
+use std::{env, fmt};
 
 const HELP: &str = "\
 Usage: lsp_values
@@ -29,7 +28,7 @@ fn main(rt: HostRuntime) -> ExitCode {
 }
 
 fn run(rt: &HostRuntime) -> anyhow::Result<()> {
-    // As in reel_check: a function for both would take the help and the sentence, and leave a test of its answer here.
+    // As in reel_check: a function that took the rest as a closure would need a `requires`, and a trait is longer than this.
     if let Some(word) = env::args(rt)?.nth(1) {
         ensure!(
             word.as_str() == "--help",
@@ -48,20 +47,26 @@ fn run(rt: &HostRuntime) -> anyhow::Result<()> {
 /// Prints the rows of one rate.
 fn print_rate(rt: &HostRuntime, rate: Rate) -> anyhow::Result<()> {
     for code in 0..=top_code(rate) {
-        let codes = LspCodes::new(rate, [code; 10])?;
-        let row = row(rt.alloc(), codes)?;
+        let row = Row(LspCodes::new(rate, [code; 10])?);
         println!(rt; "{row}")?;
     }
     Ok(())
 }
 
-/// The row of the first of ten codes: its rate, the code and its value.
-fn row(heap: Global, codes: LspCodes) -> Result<String, AllocError>
-    ensures { IfOk result (λ s. string_bytes s
-        ≡ row_text (rate_is codes.rate).number (slice_index codes.codes 0) (slice_index_or (values codes.rate codes.codes) 0 (pos 0))) }
-{
-    let rate = u8::from(codes.rate());
-    let code = codes.codes()[0];
-    let value = codes.values()[0];
-    format!(in heap; "{rate};{code};{value}")
+/// The row of the first of ten codes.
+#[derive(Clone, Copy)]
+struct Row(LspCodes);
+
+impl fmt::Display for Row {
+    ghost output = { λ row. Some (row_text (rate_is row.0.rate).number (slice_index row.0.codes 0)
+        (slice_index_or (values row.0.rate row.0.codes) 0 (pos 0))) };
+
+    /// Writes the rate, the code and its value.
+    fn fmt<W: fmt::Write>(&self, f: &mut fmt::Formatter<W>) -> fmt::Result {
+        let codes = self.0;
+        let rate = u8::from(codes.rate());
+        let code = codes.codes()[0];
+        let value = codes.values()[0];
+        write!(f, "{rate};{code};{value}")
+    }
 }

@@ -1,2 +1,3 @@
 pub mod First
+pub mod Reading
 pub mod Lawfulness

@@ -3,3 +3,4 @@ pub mod Tests
 pub mod Records
 pub mod Headers
 pub mod Lawful
+pub mod Reels

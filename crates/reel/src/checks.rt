@@ -70,7 +70,7 @@ impl<'a> Layout<'a> {
         ensures lawful { MatchResult result (λ _. Lawful self.entry.bytes.now)
             (λ _. Lawful self.entry.bytes.now → ⊥) }
     {
-        // A `for` with `?`: `try_for_each` would say the same with a `map(|_| ())` more, and its contract proves less here.
+        // `try_for_each` was tried: it needs a `map(|_| ())` more, and neither clause was proved of it.
         for k in 0..self.header.count {
             self.record(k)?;
         }
@@ -88,7 +88,7 @@ impl<'a> Layout<'a> {
         let at = self.header.list + RECORD_BYTES * k;
         let number = k as u32 + 1;
         let category = Category::from_number(bytes[at + RECORD_CATEGORY_AT], number)?;
-        category.check_length(bytes[at + RECORD_LENGTH_AT] as usize, number)?;
+        category.check_length(usize::from(bytes[at + RECORD_LENGTH_AT]), number)?;
         if bytes[at + RECORD_ZERO_AT] != 0 || bytes[at + RECORD_LAST_AT] != 0 {
             return Err(Fault::Reserved(number));
         }

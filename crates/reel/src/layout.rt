@@ -67,5 +67,5 @@ pub(crate) fn word_at(bytes: &[u8], at: usize) -> usize
     ensures value { result ≡ word bytes.now at }
     ensures bound { result < 2 ^ 32 }
 {
-    u32::from_le_bytes([bytes[at], bytes[at + 1], bytes[at + 2], bytes[at + 3]]) as usize
+    u32::from_le_bytes(*bytes[at..].first_chunk().unwrap()) as usize
 }

@@ -32,10 +32,12 @@ pub struct Reel<'a> {
 }
 
 impl<'a> Reel<'a> {
+    ghost use Rattle.reel.specs.Reels.{bytes_of};
+
     /// The reel of these bytes, or the first test that they fail.
     pub fn new(bytes: &'a [u8]) -> Result<Reel<'a>, Fault>
         ensures answer { MatchResult result
-            (λ reel. (fault bytes.now ≡ None) × (reel.layout.bytes.now ≡ bytes.now))
+            (λ reel. (fault bytes.now ≡ None) × (bytes_of reel ≡ bytes.now))
             (λ e. fault bytes.now ≡ Some (fault_is e)) }
         ensures lawful { MatchResult result (λ _. Lawful bytes.now) (λ _. Lawful bytes.now → ⊥) }
     {
@@ -46,7 +48,7 @@ impl<'a> Reel<'a> {
 
     /// A reel with no records, to load another into.
     pub fn empty() -> Reel<'a>
-        ensures { count result.layout.bytes.now ≡ 0 }
+        ensures { count (bytes_of result) ≡ 0 }
     {
         Reel::new(&EMPTY).unwrap()
     }
@@ -54,7 +56,7 @@ impl<'a> Reel<'a> {
     /// Checks the bytes of a reel. A lawful reel takes the place of this one; at a fault nothing is altered.
     pub fn load(&mut self, bytes: &'a [u8]) -> Result<(), Fault>
         ensures answer { MatchResult result
-            (λ _. (fault bytes.now ≡ None) × (self.new.layout.bytes.now ≡ bytes.now))
+            (λ _. (fault bytes.now ≡ None) × (bytes_of self.new ≡ bytes.now))
             (λ e. (fault bytes.now ≡ Some (fault_is e)) × (self.new ≡ self.old)) }
         ensures lawful { MatchResult result (λ _. Lawful bytes.now) (λ _. Lawful bytes.now → ⊥) }
     {
@@ -64,7 +66,7 @@ impl<'a> Reel<'a> {
 
     /// How many records there are.
     pub fn record_count(&self) -> usize
-        ensures { result ≡ count self.now.layout.bytes.now }
+        ensures { result ≡ count (bytes_of self.now) }
     {
         self.layout.count()
     }
@@ -72,7 +74,7 @@ impl<'a> Reel<'a> {
     /// Record `k`, from 0; none if there are not so many.
     #[tactic(auto, using(crate::proofs::First::record_passes))]
     pub fn record(&self, k: usize) -> Option<Record<'a>>
-        ensures { RecordAt self.now.layout.bytes.now k result }
+        ensures { RecordAt (bytes_of self.now) k result }
     {
         if self.layout.count() <= k {
             return None;
@@ -89,19 +91,21 @@ impl<'a> Reel<'a> {
 }
 
 /// The records of a reel that are left.
-#[derive(Clone, Copy, PartialEq, Eq, Debug)]
+#[derive(Clone, Debug, Drop)]
 pub struct Iter<'a> {
     reel: Reel<'a>,
     at: usize,
 }
 
 impl<'a> Iterator for Iter<'a> {
+    ghost use Rattle.reel.specs.Reels.{bytes_of};
+
     type Item = Record<'a>;
 
-    ghost next_gives = { λ old item new. (new.reel ≡ old.reel) × RecordAt old.reel.layout.bytes.now old.at item
+    ghost next_gives = { λ old item new. (new.reel ≡ old.reel) × RecordAt (bytes_of old.reel) old.at item
         × MatchOption item (new.at ≡ old.at) (λ _. new.at ≡ old.at + 1) };
 
-    ghost remaining = { λ iter. at_most (count iter.reel.layout.bytes.now - iter.at) };
+    ghost remaining = { λ iter. at_most (count (bytes_of iter.reel) - iter.at) };
 
     fn next(&mut self) -> Option<Record<'a>> {
         let record = self.reel.record(self.at)?;

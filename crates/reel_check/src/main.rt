@@ -1,18 +1,17 @@
 //! Checks the reel on standard input, and prints its records and the verdict on standard output.
 #![tactic(auto)]
 
-ghost use Rattle.std.specs.Prelude.{◌≡◌, take, IfOk, IfSome};
+ghost use Rattle.std.specs.Prelude.{◌≡◌, ◌++◌, take, IfSome, OnOk};
 ghost use Rattle.std.specs.Option.{option_map};
 
 use anyhow::{Context, ensure};
 use program::exit_code;
-use std::alloc::Global;
 use std::io::Read;
 use std::process::ExitCode;
 use std::{env, io};
 
 /// One byte more than the longest reel: an input that fills it is refused, and not read to its end.
-const MOST_INPUT: u64 = reel::MOST_BYTES as u64 + 1;
+const MOST_INPUT: usize = reel::MOST_BYTES + 1;
 
 const HELP: &str = "\
 Usage: reel_check < REEL
@@ -33,7 +32,7 @@ fn main(rt: HostRuntime) -> ExitCode {
 }
 
 fn run(rt: &HostRuntime) -> anyhow::Result<()> {
-    // As in lsp_values: a function for both would take the help and the sentence, and leave a test of its answer here.
+    // As in lsp_values: a function that took the rest as a closure would need a `requires`, and a trait is longer than this.
     if let Some(word) = env::args(rt)?.nth(1) {
         ensure!(
             word.as_str() == "--help",
@@ -42,17 +41,18 @@ fn run(rt: &HostRuntime) -> anyhow::Result<()> {
         println!(rt; "{HELP}")?;
         return Ok(());
     }
-    let input = read_reel(rt.alloc(), rt.stdin()).context("standard input cannot be read")?;
+    let mut input = Vec::with_capacity(rt.alloc(), MOST_INPUT)?;
+    read_reel(rt.stdin(), &mut input).context("standard input cannot be read")?;
     let text = reel_text::listing(rt.alloc(), &input)?;
     rt.print(text)?;
     Ok(())
 }
 
-/// The bytes of an input, up to the most that are looked at.
-fn read_reel<R: Read + Drop>(heap: Global, input: R) -> io::Result<Vec<u8>>
-    ensures { IfOk result (λ bytes. IfSome (option_map (take MOST_INPUT) (R.remaining input)) (λ first. bytes.items ≡ first)) }
+/// Adds the bytes of an input, up to the most that are looked at.
+fn read_reel<R: Read + Drop>(input: R, bytes: &mut Vec<u8>) -> io::Result<()>
+    ensures { OnOk result (IfSome (option_map (take MOST_INPUT) (R.remaining input))
+        (λ first. bytes.new.items ≡ bytes.old.items ++ first)) }
 {
-    let mut bytes = Vec::new(heap);
-    input.take(MOST_INPUT).read_to_end(&mut bytes)?;
-    Ok(bytes)
+    input.take(MOST_INPUT as u64).read_to_end(bytes)?;
+    Ok(())
 }

@@ -4,6 +4,7 @@
 ghost use Rattle.std.specs.Prelude.{◌≡◌, IfOk, Some, string_bytes};
 ghost use Rattle.reel.specs.Layout.{count};
 ghost use Rattle.reel.specs.Records.{record_is};
+ghost use Rattle.reel.specs.Reels.{bytes_of};
 ghost use Rattle.reel.specs.Tests.{fault};
 ghost use Rattle.service.specs.Refusals.{fault_is};
 ghost use Rattle.service.specs.Texts.{refused_text};
@@ -18,11 +19,12 @@ use std::fmt;
 pub fn listing(heap: Global, bytes: &[u8]) -> Result<String, AllocError>
     ensures { IfOk result (λ s. string_bytes s ≡ reel_text bytes.now) }
 {
-    let (mut text, verdict) = match Reel::new(bytes) {
-        Ok(reel) => (record_lines(heap, &reel)?, Ok(reel.record_count())),
-        Err(fault) => (String::new(heap), Err(fault)),
+    let reel = Reel::new(bytes);
+    let mut text = match &reel {
+        Ok(reel) => record_lines(heap, reel)?,
+        Err(_) => String::new(heap),
     };
-    let verdict = verdict_text(heap, verdict)?;
+    let verdict = Verdict(reel.map(|reel| reel.record_count()));
     writeln!(text, "{verdict}")?;
     Ok(text)
 }
@@ -39,10 +41,8 @@ pub fn record_text(heap: Global, number: usize, item: Record<'_>) -> Result<Stri
 pub fn verdict_text(heap: Global, verdict: Result<usize, Fault>) -> Result<String, AllocError>
     ensures { IfOk result (λ s. string_bytes s ≡ verdict_text verdict) }
 {
-    match verdict {
-        Ok(count) => format!(in heap; "ok {count}"),
-        Err(fault) => refused_text(heap, fault),
-    }
+    let verdict = Verdict(verdict);
+    format!(in heap; "{verdict}")
 }
 
 /// The text of what the check of a reel answers.
@@ -66,7 +66,7 @@ pub fn refused_text(heap: Global, fault: Fault) -> Result<String, AllocError>
 #[tactic(auto, using(crate::proofs::Lines::lines_none, crate::proofs::Lines::lines_more))]
 fn record_lines(heap: Global, reel: &Reel<'_>) -> Result<String, AllocError>
     ensures { IfOk result (λ s. string_bytes s
-        ≡ record_lines reel.now.layout.bytes.now (count reel.now.layout.bytes.now)) }
+        ≡ record_lines (bytes_of reel.now) (count (bytes_of reel.now))) }
 {
     let mut text = String::new(heap);
     for (k, item) in reel.iter().enumerate() {
@@ -77,6 +77,22 @@ fn record_lines(heap: Global, reel: &Reel<'_>) -> Result<String, AllocError>
         writeln!(text, "{row}")?;
     }
     Ok(text)
+}
+
+/// The verdict on a reel: how many records it has, or its fault.
+#[derive(Clone, Copy)]
+struct Verdict(Result<usize, Fault>);
+
+impl fmt::Display for Verdict {
+    ghost output = { λ verdict. Some (verdict_text verdict.0) };
+
+    /// Writes the last line.
+    fn fmt<W: fmt::Write>(&self, f: &mut fmt::Formatter<W>) -> fmt::Result {
+        match &self.0 {
+            Ok(count) => write!(f, "ok {count}"),
+            Err(fault) => fault.fmt(f),
+        }
+    }
 }
 
 /// A record under its number.
@@ -144,6 +160,7 @@ mod tests {
         \x02\x00\x00\x00\x01\x02\x00\x00\x00\x00\xff\xff\
     ";
 
+    // Not assert_eq: in a function below a test it would need the bound Abort.
     fn check_text(heap: Global, bytes: &[u8], expected: &str) -> Result<(), Fail> {
         let text = listing(heap, bytes)?;
         if text.as_str() == expected {

@@ -1,4 +1,4 @@
--- The first power of x whose remainder is the syndrome: below the length of the code, 1 << p is 2 ^ p.
+-- By hand, since the check does not find that 1 << p is 2 ^ p below the length of the code alone.
 use Rattle.std.proofs.Common.{◌≡◌, ◌^◌, ◌<◌, ◌≢◌, arith, rules, tests}
 use lib.Pow.{pow-lt}
 use Rattle.std.proofs.lemmas.Iterator.{first_from_Range}

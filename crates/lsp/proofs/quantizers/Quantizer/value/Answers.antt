@@ -1,3 +1,4 @@
+-- By hand, since a product of two numbers that are no literals is not found to fit 64 bits.
 use Rattle.std.proofs.Common.{◌≡◌, ◌*◌, pos, ◌-ℤ◌, ◌*ℤ◌, arith, w64, SFits, to_z, of_z}
 use Rattle.std.proofs.lemmas.Int.{to_z-of_z, ints}
 use Rattle.lsp.specs.Quantizers.{top_code, half_step, value_of}

@@ -1,3 +1,4 @@
+-- By hand, since the reel is a list of tests and the loop a test of records: no_fault and fault_at lead from one to the other.
 use Rattle.std.proofs.Common.{arith, below_more}
 use Rattle.std.proofs.lemmas.Result.{err_from_is_err_and}
 use Rattle.reel.proofs.First.{fault_at, no_fault}
