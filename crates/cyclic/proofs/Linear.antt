@@ -86,12 +86,16 @@ pub rem_none : (w : ℕ) → w < 2 ^ 32 → rem (w / 2 ^ 32) ≡ 0
 unfolding rem
 rem_none w h = ap rem (div-eq_of_lt h)
 
+bit_test : (t : ℕ) → t < 2 → cond (eqb t 1) 1 0 ≡ t
+bit_test = bit_cases (λ (t : ℕ). cond (eqb t 1) 1 0 ≡ t) refl refl
+
 -- one bit more of w, the lowest of those from i - 1 up
-pub rem_down : (w i : ℕ) → 0 < i → shift_in (rem (w / 2 ^ i)) (bit_and (w / 2 ^ (i - 1)) 1) ≡ rem (w / 2 ^ (i - 1))
+pub rem_down : (w i : ℕ) → 0 < i → shift_in (rem (w / 2 ^ i)) (cond (eqb (bit_and (w / 2 ^ (i - 1)) 1) 1) 1 0) ≡ rem (w / 2 ^ (i - 1))
 rem_down w i h =
     let n = w / 2 ^ (i - 1) in
     let e : i - 1 + 1 ≡ i = omega arith in
-    ap₂ shift_in (ap rem (sym (shr-shr w (i - 1) 1 ∙ ap (λ (k : ℕ). w / 2 ^ k) e))) (and_mask n 1) ∙ sym (rem_step n)
+    let b = and_mask n 1 in
+    ap₂ shift_in (ap rem (sym (shr-shr w (i - 1) 1 ∙ ap (λ (k : ℕ). w / 2 ^ k) e))) (rw b (bit_test (n % 2) (bit n))) ∙ sym (rem_step n)
 
 -- ---- the size of a remainder
 
