@@ -25,19 +25,19 @@ impl Residue {
         Residue { coefficients: 0 }
     }
 
-    // The remainder of r(x) × x, plus 1 if the next coefficient is 1.
+    // The remainder of r(x) × x + b, where b is 1 or 0.
     #[tactic(auto, using(crate::proofs::Linear::reduced_low, crate::proofs::Linear::reduced_is, crate::proofs::Linear::minus_generator_lt))]
-    fn shift_in(self, one: bool) -> Residue
-        ensures { result.coefficients ≡ shift_in self.coefficients (cond one 1 0) }
+    fn shift_in(self, b: bool) -> Residue
+        ensures { result.coefficients ≡ shift_in self.coefficients (cond b 1 0) }
     {
-        let p = self.coefficients * 2 + u16::from(one);
+        let p = self.coefficients * 2 + u16::from(b);
         Residue {
             coefficients: if p >= X10 { p ^ GENERATOR } else { p },
         }
     }
 }
 
-// Its coefficients are shifted in from the highest down.
+// The remainder of a polynomial, its coefficients shifted in from the highest down.
 #[tactic(auto, using(crate::proofs::Linear::rem_none, crate::proofs::Linear::rem_down))]
 fn divide(polynomial: u32) -> Residue
     ensures { result.coefficients ≡ rem polynomial }
