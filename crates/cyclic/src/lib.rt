@@ -54,14 +54,17 @@ mod tests {
         }
     }
 
+    // The number of the refusal of these bits, if there is one.
+    fn number_of_refusal<const N: u32>(bits: u32) -> Option<u8> {
+        Bits::<N>::new(bits).err().map(|refusal| refusal.number())
+    }
+
     #[test]
     fn too_many_bits(rt: HostRuntime) {
-        for (bits, refusal) in [((1 << 18) - 1, None), (1 << 18, Some(17))] {
-            assert_eq!(rt; Message::new(bits).err().map(|e| e.number()), refusal);
-        }
-        for (bits, refusal) in [((1 << 29) - 1, None), (1 << 29, Some(17))] {
-            assert_eq!(rt; Word::new(bits).err().map(|e| e.number()), refusal);
-        }
-        assert!(rt; Bits::<40>::new(u32::MAX).is_ok());
+        assert_eq!(rt; number_of_refusal::<18>((1 << 18) - 1), None);
+        assert_eq!(rt; number_of_refusal::<18>(1 << 18), Some(17));
+        assert_eq!(rt; number_of_refusal::<29>((1 << 29) - 1), None);
+        assert_eq!(rt; number_of_refusal::<29>(1 << 29), Some(17));
+        assert_eq!(rt; number_of_refusal::<40>(u32::MAX), None);
     }
 }

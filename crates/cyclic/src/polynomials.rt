@@ -18,7 +18,7 @@ struct Residue {
 }
 
 impl Residue {
-    // That of the polynomial 0.
+    // That of the polynomial 0. Not a literal in `divide`: the loop there would know its fields, and not that it is a residue.
     fn zero() -> Residue
         ensures { result.coefficients ≡ 0 }
     {
@@ -42,7 +42,7 @@ impl Residue {
 fn divide(polynomial: u32) -> Residue
     ensures { result.coefficients ≡ rem polynomial }
 {
-    // A fold over `rev` was tried: no lemma of the library says what a reversed range yields.
+    // A fold over `rev` was tried, and no lemma of the library says what a reversed range yields; over 31 - i it reads worse.
     let mut r = Residue::zero();
     for i in (0..u32::BITS).rev() {
         r = r.shift_in(polynomial >> i & 1 == 1);

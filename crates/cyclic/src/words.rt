@@ -18,7 +18,7 @@ pub struct Bits<const N: u32> {
 pub type Message = Bits<18>;
 
 /// The 29 guarded bits, inversions undone: the message from bit 11 up, PCB[10] to PCB[1] at bits 10 to 1, PCB[0] at bit 0.
-/// So many are the 18 of a message, the ten check bits and the overall parity bit.
+/// 29 is 18 of the message, the ten check bits and the overall parity bit; the argument of a type cannot be computed.
 pub type Word = Bits<29>;
 
 impl<const N: u32> Bits<N> {

@@ -28,7 +28,7 @@ fn main(rt: HostRuntime) -> ExitCode {
 }
 
 fn run(rt: &HostRuntime) -> anyhow::Result<()> {
-    // As in reel_check: a function that took the rest as a closure would need a `requires`, and a trait is longer than this.
+    // As in reel_check: a function for both would be public, and no contract can say which words a program is given.
     if let Some(word) = env::args(rt)?.nth(1) {
         ensure!(
             word.as_str() == "--help",

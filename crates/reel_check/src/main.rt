@@ -10,7 +10,7 @@ use std::io::Read;
 use std::process::ExitCode;
 use std::{env, io};
 
-/// One byte more than the longest reel: an input that fills it is refused, and not read to its end.
+/// One byte more than the longest reel: an input that has so many is refused, and not read to its end.
 const MOST_INPUT: usize = reel::MOST_BYTES + 1;
 
 const HELP: &str = "\
@@ -32,7 +32,7 @@ fn main(rt: HostRuntime) -> ExitCode {
 }
 
 fn run(rt: &HostRuntime) -> anyhow::Result<()> {
-    // As in lsp_values: a function that took the rest as a closure would need a `requires`, and a trait is longer than this.
+    // As in lsp_values: a function for both would be public, and no contract can say which words a program is given.
     if let Some(word) = env::args(rt)?.nth(1) {
         ensure!(
             word.as_str() == "--help",
@@ -48,7 +48,7 @@ fn run(rt: &HostRuntime) -> anyhow::Result<()> {
     Ok(())
 }
 
-/// Adds the bytes of an input, up to the most that are looked at.
+/// Adds the bytes of an input, up to `MOST_INPUT` of them.
 fn read_reel<R: Read + Drop>(input: R, bytes: &mut Vec<u8>) -> io::Result<()>
     ensures { OnOk result (IfSome (option_map (take MOST_INPUT) (R.remaining input))
         (λ first. bytes.new.items ≡ bytes.old.items ++ first)) }

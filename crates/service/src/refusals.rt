@@ -56,7 +56,7 @@ pub enum Refusal {
 
 impl Fault {
     /// The number that a caller sees, from 1 to 9.
-    // Not From: a number alone is not the fault, whose place is the other half of what a caller sees.
+    // Not From: it would be this same match, since a case that carries a place has no `as`.
     pub fn number(self) -> u8
         ensures { result ≡ (fault_is self).number }
     {
@@ -90,7 +90,7 @@ impl Fault {
 
 impl Refusal {
     /// The number that a caller sees, from 1 to 18.
-    // Not From, as for a fault.
+    // Not From: it would be this same match, since a case that carries a place has no `as`.
     pub fn number(self) -> u8
         ensures { result ≡ (refusal_is self).number }
     {

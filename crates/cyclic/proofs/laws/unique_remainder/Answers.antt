@@ -1,4 +1,4 @@
--- An answer, since the check does not take a lemma on every p apart into its two parts by the attribute.
+-- By hand: named on the function, neither the lemma nor its two parts, `remainder` and `only`, were found to serve.
 use Rattle.cyclic.proofs.Linear.{unique_remainder}
 use Rattle.cyclic.proofs.laws.unique_remainder.Goals as goal
 

@@ -1,4 +1,4 @@
--- By hand, since a write in a loop is joined to those before it by the library's lemma, which an attribute cannot name.
+-- By hand, since grind does not repeat the library's has_written_append for each turn of a loop.
 use Rattle.std.proofs.Common.{[], get_or, take, sym, ap, ◌∙◌, rules}
 use Rattle.std.proofs.Output.{has_written_append, has_written_of_eq}
 use Rattle.std.proofs.lemmas.List.{take_more, flat_map_more}

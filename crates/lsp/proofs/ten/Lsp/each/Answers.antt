@@ -1,4 +1,4 @@
--- By hand, since what the check needs, `value` and its proof, are what the clause is about and no lemma names.
+-- By hand, since the clause is about every value, and the check does not find what from_fn_ten asks of each call.
 use Rattle.std.proofs.Common.{of_calls}
 use Rattle.lsp.proofs.Tens.{from_fn_ten}
 use Rattle.lsp.proofs.ten.Lsp.each.Goals as goal
