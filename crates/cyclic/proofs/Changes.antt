@@ -145,7 +145,7 @@ module _ (a w : ℕ) (la : a < 2 ^ 18) (lw : w < 2 ^ 29) where
 
   suspect_read : (r : Option ℕ) → SuspectRule w r → differing (sent a) w ≤ 1 → r ≡ Some a
   suspect_read (Some v) (inl (z, e)) h = let s = split in ap Some (e ∙ same_data (none_changed (omega arith) z))
-  suspect_read (Some v) (inr (o, (p, at, e))) h =
+  suspect_read (Some v) (inr (p, (o, at), e)) h =
       let s = split in ap Some (e ∙ mended_data p (one_changed (omega arith) p at))
   suspect_read None (z, n) h =
       let s = split in
@@ -153,7 +153,7 @@ module _ (a w : ℕ) (la : a < 2 ^ 18) (lw : w < 2 ^ 29) where
       let c = some_changed z in
       let k = ones_one changed (omega arith) in
       let l : k.0 < 28 = elim (cases_lt k.0 28) [ inl l ↦ l | inr g ↦ absurd (omega (arith, pow_mono g, k.1, changed_lt)) ] in
-      absurd (n (omega arith) k.0 (l, ap rem (sym k.1) ∙ sym syndrome_is))
+      absurd (n k.0 (omega arith, (l, ap rem (sym k.1) ∙ sym syndrome_is)))
 
   suspect_erased : (r : Option ℕ) → SuspectRule w r → differing (sent a) w ≤ 4 → 1 < differing (sent a) w → r ≡ None
   suspect_erased None h few two = refl
@@ -162,7 +162,7 @@ module _ (a w : ℕ) (la : a < 2 ^ 18) (lw : w < 2 ^ 29) where
       let c = ap ones (none_changed (omega arith) z) in
       let o = ones_bit 0 (omega arith) in
       absurd (omega arith)
-  suspect_erased (Some v) (inr (o, (p, at, e))) few two =
+  suspect_erased (Some v) (inr (p, (o, at), e)) few two =
       let s = split in
       let q = parity_is in
       let c = ap ones (one_changed (omega arith) p at) in

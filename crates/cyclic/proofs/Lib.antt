@@ -2,4 +2,5 @@ pub mod Linear
 pub mod Shifts
 pub mod Distance
 pub mod Changes
+pub mod Sent
 pub mod Readings

@@ -6,7 +6,7 @@ use lib.Pow.{pow-lt}
 use Rattle.std.proofs.lemmas.Bool.{cases_eq, cases_lt, cases_order}
 use Rattle.cyclic.specs.Polynomials.{rem}
 use Rattle.cyclic.specs.Words.{message, syndrome, parity, corrected, Points, PlainRule, SuspectRule}
-use Rattle.cyclic.specs.Laws.{OnePlace, OneReading, OneReadingByEachRule}
+use Rattle.cyclic.specs.Laws.{AtMostOnePlace, OneReading, OneReadingByEachRule}
 use Rattle.cyclic.proofs.Linear.{xor_none, rem-xor}
 use Rattle.cyclic.proofs.Distance.{distance}
 use Rattle.cyclic.proofs.Changes.{ones_both, ones_pow}
@@ -36,8 +36,8 @@ points_not_zero p (l, e) =
     let z = distance (2 ^ p) (pow-lt l) (omega arith) e in
     absurd (omega (arith, z, pow_pos p))
 
-pub one_place : OnePlace
-one_place = record { one = points_once; zero = points_not_zero }
+pub at_most_one_place : AtMostOnePlace
+at_most_one_place = record { one = points_once; zero = points_not_zero }
 
 -- ---- whether a syndrome points at a place
 
@@ -75,10 +75,10 @@ suspect_some w = elim (cases_eq (syndrome w) 0) [
   | inl z ↦ (Some (message w), inl (z, refl))
   | inr n ↦ elim (cases_eq (parity w) 1) [
     | inl o ↦ elim (points_or_none (syndrome w) 28) [
-      | inl (p, l, e) ↦ (Some (message (corrected w p)), inr (o, (p, (l, e), refl)))
-      | inr none ↦ (None, (n, λ _ p at. none p at.0 at.1))
+      | inl (p, l, e) ↦ (Some (message (corrected w p)), inr (p, (o, (l, e)), refl))
+      | inr none ↦ (None, (n, λ p c. none p c.1.0 c.1.1))
     ]
-    | inr even ↦ (None, (n, λ o p at. even o))
+    | inr even ↦ (None, (n, λ p c. even c.0))
   ]
 ]
 
@@ -88,14 +88,14 @@ not_both s p z (l, e) = points_not_zero p (l, e ∙ z)
 
 suspect_only : (w : ℕ) (r r' : Option ℕ) → SuspectRule w r → SuspectRule w r' → r ≡ r'
 suspect_only w (Some a) (Some b) (inl (z, e)) (inl (y, d)) = ap Some (e ∙ sym d)
-suspect_only w (Some a) (Some b) (inl (z, e)) (inr (o, (p, at, d))) = absurd (not_both (syndrome w) p z at)
-suspect_only w (Some a) (Some b) (inr (o, (p, at, e))) (inl (y, d)) = absurd (not_both (syndrome w) p y at)
-suspect_only w (Some a) (Some b) (inr (o, (p, at, e))) (inr (u, (q, there, d))) =
+suspect_only w (Some a) (Some b) (inl (z, e)) (inr (p, (o, at), d)) = absurd (not_both (syndrome w) p z at)
+suspect_only w (Some a) (Some b) (inr (p, (o, at), e)) (inl (y, d)) = absurd (not_both (syndrome w) p y at)
+suspect_only w (Some a) (Some b) (inr (p, (o, at), e)) (inr (q, (u, there), d)) =
     ap Some (e ∙ ap (λ (k : ℕ). message (corrected w k)) (points_once (syndrome w) p q at there) ∙ sym d)
 suspect_only w (Some a) None (inl (z, e)) (n, k) = absurd (n z)
-suspect_only w (Some a) None (inr (o, (p, at, e))) (n, k) = absurd (k o p at)
+suspect_only w (Some a) None (inr (p, (o, at), e)) (n, k) = absurd (k p (o, at))
 suspect_only w None (Some b) (n, k) (inl (y, d)) = absurd (n y)
-suspect_only w None (Some b) (n, k) (inr (o, (p, at, d))) = absurd (k o p at)
+suspect_only w None (Some b) (n, k) (inr (p, (o, at), d)) = absurd (k p (o, at))
 suspect_only w None None h g = refl
 
 pub suspect_reading : OneReading SuspectRule

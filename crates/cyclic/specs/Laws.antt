@@ -1,15 +1,21 @@
 -- What the cyclic code and the overall parity bit promise. Assumes nothing.
 use Rattle.std.specs.Prelude.{◌≡◌, ℕ, ◌^◌, ◌<◌, ◌≤◌, Some, None, Option, count_ones}
 use Rattle.cyclic.specs.Polynomials.{rem}
-use Rattle.cyclic.specs.Words.{codeword, sent, cyclic_bits, differing, Points, PlainRule, SuspectRule}
+use Rattle.cyclic.specs.Words.{codeword, sent, message, cyclic_bits, differing, RightCheckBits, Points, PlainRule, SuspectRule}
 
--- no pattern of one to four of the 28 places has remainder 0: a word of the cyclic code that is not 0 has weight five at
--- least
+-- no pattern of one to four of the 28 places has remainder 0: a codeword of the cyclic code that is not 0 has weight five
+-- at least
 abbrev pub WeightAtLeastFive : Type 0
 WeightAtLeastFive = (e : ℕ) → e < 2 ^ 28 → count_ones e ≤ 4 → rem e ≡ 0 → e ≡ 0
 
+-- a word that is sent has right check bits and the message that it was sent for, and a word of 29 bits with right check bits
+-- is the one that is sent for its message
+pub record RightWords : Type 0 where
+  pub sent-right : (a : ℕ) → RightCheckBits (sent a) × (message (sent a) ≡ a)
+  pub right-sent : (w : ℕ) → w < 2 ^ 29 → RightCheckBits w → w ≡ sent (message w)
+
 -- a syndrome points at one place at most, and 0 at none
-pub record OnePlace : Type 0 where
+pub record AtMostOnePlace : Type 0 where
   pub one : (s p q : ℕ) → Points s p → Points s q → p ≡ q
   pub zero : (p : ℕ) → Points 0 p → ⊥
 

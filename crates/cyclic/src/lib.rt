@@ -3,16 +3,19 @@
 #![tactic(auto)]
 
 mod laws;
+mod numbers;
 mod places;
 mod polynomials;
 mod words;
 
 pub use laws::{
-    four_changes, one_place, one_reading_by_each_rule, unique_remainder, weight_at_least_five,
+    at_most_one_place, four_changes, one_reading_by_each_rule, right_words, unique_remainder,
+    weight_at_least_five,
 };
+pub use numbers::Bits;
 pub use places::{Place, place_of};
-pub use polynomials::remainder;
-pub use words::{Bits, Message, Word};
+pub use polynomials::{Residue, remainder};
+pub use words::{Message, Word};
 
 #[cfg(test)]
 mod tests {
@@ -24,12 +27,9 @@ mod tests {
         for (bits, check_bits, parity) in [(0, 0, 0), (1, 0b11_0110_1001, 1)] {
             let message = Message::new(bits)?;
             let word = message.word();
-            assert_eq!(rt; message.check_bits(), check_bits);
-            assert_eq!(rt;
-                word.bits(),
-                bits << 11 | u32::from(check_bits) << 1 | parity
-            );
-            assert_eq!(rt; word.syndrome(), 0);
+            assert_eq!(rt; message.check_bits(), Residue::new(check_bits)?);
+            assert_eq!(rt; word.bits(), bits << 11 | check_bits << 1 | parity);
+            assert_eq!(rt; word.syndrome(), Residue::new(0)?);
             assert!(rt; word.parity_checks());
         }
         Ok(())
@@ -48,10 +48,11 @@ mod tests {
     }
 
     #[test]
-    fn syndromes_of_no_place(rt: HostRuntime) {
-        for syndrome in [0, 1023, 1024, 65_535] {
-            assert!(rt; place_of(syndrome).is_none());
+    fn syndromes_of_no_place(rt: HostRuntime) -> Result<(), Fail> {
+        for syndrome in [0, 1023] {
+            assert!(rt; place_of(Residue::new(syndrome)?).is_none());
         }
+        Ok(())
     }
 
     // The number of the refusal of these bits, if there is one.
@@ -61,6 +62,8 @@ mod tests {
 
     #[test]
     fn too_many_bits(rt: HostRuntime) {
+        assert_eq!(rt; number_of_refusal::<10>(1023), None);
+        assert_eq!(rt; number_of_refusal::<10>(1024), Some(17));
         assert_eq!(rt; number_of_refusal::<18>((1 << 18) - 1), None);
         assert_eq!(rt; number_of_refusal::<18>(1 << 18), Some(17));
         assert_eq!(rt; number_of_refusal::<29>((1 << 29) - 1), None);

@@ -2,12 +2,12 @@
 ghost use Rattle.std.specs.Prelude.{◌≡◌, ℕ, ◌^◌, ◌<◌, MatchOption, ◌≢◌};
 ghost use Rattle.cyclic.specs.Polynomials.{rem};
 ghost use Rattle.cyclic.specs.Words.{Points};
-ghost use Rattle.cyclic.specs.declared.places.TheConstants.{CODE_BITS};
+ghost use Rattle.cyclic.specs.declared.places.TheConstants.{CODE_LENGTH};
 
-use crate::polynomials::remainder;
+use crate::polynomials::{Residue, remainder};
 
-// The length of the cyclic code.
-const CODE_BITS: u8 = 28;
+// The number of bits of the cyclic code.
+const CODE_LENGTH: u8 = 28;
 
 /// A place of the 28 bits of the cyclic code, by its power of x: 0 to 27.
 #[derive(Clone, Copy, PartialEq, Eq, Debug)]
@@ -27,16 +27,16 @@ impl Place {
 }
 
 // The power of x that leaves this remainder, or none if none of the 28 does. Each is divided anew, in 28 × 32 steps at most.
-fn power_of(syndrome: u16) -> Option<u8>
-    ensures { MatchOption result ((p : ℕ) → p < CODE_BITS → rem (2 ^ p) ≢ syndrome)
-        (λ p. (p < CODE_BITS) × (rem (2 ^ p) ≡ syndrome)) }
+fn power_of(syndrome: Residue) -> Option<u8>
+    ensures { MatchOption result ((p : ℕ) → p < CODE_LENGTH → rem (2 ^ p) ≢ syndrome.bits)
+        (λ p. (p < CODE_LENGTH) × (rem (2 ^ p) ≡ syndrome.bits)) }
 {
-    (0..CODE_BITS).find(|&power| remainder(1 << power) == syndrome)
+    (0..CODE_LENGTH).find(|&power| remainder(1 << power).bits == syndrome.bits)
 }
 
 /// The place that a syndrome points at: the one whose power of x leaves this remainder, or none exactly if there is none.
-pub fn place_of(syndrome: u16) -> Option<Place>
-    ensures { MatchOption result ((p : ℕ) → Points syndrome p → ⊥) (λ place. Points syndrome place.power) }
+pub fn place_of(syndrome: Residue) -> Option<Place>
+    ensures { MatchOption result ((p : ℕ) → Points syndrome.bits p → ⊥) (λ place. Points syndrome.bits place.power) }
 {
     let power = power_of(syndrome)?;
     Some(Place { power })

@@ -1,17 +1,9 @@
 //! The guarded bits as numbers: the 18 that carry codes, and the word of all 29.
-ghost use Rattle.std.specs.Prelude.{◌≡◌, ◌^◌, ◌<◌, ◌≤◌, MatchBool, MatchResult};
-ghost use Rattle.service.specs.Refusals.{refusal_is, refused};
+ghost use Rattle.std.specs.Prelude.{◌≡◌, ◌^◌, ◌<◌, MatchBool};
 ghost use Rattle.cyclic.specs.Words.{check_bits, codeword, message, parity, sent, syndrome};
 
-use crate::polynomials::{CHECK_BITS, remainder};
-use service::Refusal;
-
-/// A number of at most `N` bits.
-#[derive(Clone, Copy, PartialEq, Eq, Debug)]
-pub struct Bits<const N: u32> {
-    bits: u32,
-    ghost within: { bits < 2 ^ N },
-}
+use crate::numbers::Bits;
+use crate::polynomials::{CHECK_BITS, Residue, remainder};
 
 /// The 18 guarded code bits, the message polynomial a(x): LSP1[3] at x^17 down to LSP10[3] at x^8, then CBGAIN1[1] at
 /// x^7 down to CBGAIN8[1] at x^0. Bit p is the coefficient of x^p.
@@ -21,37 +13,15 @@ pub type Message = Bits<18>;
 /// 29 is 18 of the message, the ten check bits and the overall parity bit; the argument of a type cannot be computed.
 pub type Word = Bits<29>;
 
-impl<const N: u32> Bits<N> {
-    /// These bits, or refusal 17 if one above the lowest `N` is set.
-    #[tactic(auto, using(crate::proofs::Shifts::fits, crate::proofs::Shifts::fits_not))]
-    pub fn new(bits: u32) -> Result<Bits<N>, Refusal>
-        ensures { MatchResult result (λ b. b.bits ≡ bits) (λ e. (refusal_is e ≡ refused 17) × (2 ^ N ≤ bits)) }
-    {
-        if bits.unbounded_shr(N) != 0 {
-            return Err(Refusal::Codes);
-        }
-        Ok(Bits { bits })
-    }
-
-    /// The bits as a number.
-    pub fn bits(self) -> u32
-        ensures value { result ≡ self.entry.bits }
-        ensures within { result < 2 ^ N }
-    {
-        self.bits
-    }
-}
-
 impl Message {
     /// The ten check bits before inversion, PCB[10] at x^9 down to PCB[1] at x^0.
-    pub fn check_bits(self) -> u16
-        ensures value { result ≡ check_bits self.bits }
-        ensures within { result < 2 ^ 10 }
+    pub fn check_bits(self) -> Residue
+        ensures { result.bits ≡ check_bits self.bits }
     {
         remainder(self.bits << CHECK_BITS)
     }
 
-    /// The overall parity bit PCB[0]: the exclusive-or of the message and its check bits.
+    /// The overall parity bit PCB[0], 0 or 1: the exclusive-or of all 28 bits of the message and its check bits.
     pub fn parity_bit(self) -> u32
         ensures { result ≡ parity (codeword self.bits) }
     {
@@ -72,7 +42,7 @@ impl Message {
         ensures value { result ≡ codeword self.bits }
         ensures within { result < 2 ^ 28 }
     {
-        (self.bits << CHECK_BITS) + u32::from(self.check_bits())
+        (self.bits << CHECK_BITS) + self.check_bits().bits
     }
 }
 
@@ -87,9 +57,8 @@ impl Word {
     }
 
     /// The remainder of the 28 bits of the cyclic code.
-    pub fn syndrome(self) -> u16
-        ensures value { result ≡ syndrome self.bits }
-        ensures within { result < 2 ^ 10 }
+    pub fn syndrome(self) -> Residue
+        ensures { result.bits ≡ syndrome self.bits }
     {
         remainder(self.bits >> 1)
     }
