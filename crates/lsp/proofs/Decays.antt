@@ -1,19 +1,16 @@
--- What the decay does, and that a memory stays in range. Only decay_is and rounds_down look into the definition of the
--- decay. The range here, and the laws over histories, rest on decay_law.
-use Rattle.std.proofs.Common.{◌≡◌, ℕ, ◌^◌, ◌<◌, ◌≤◌, ℤ, pos, negsuc, ◌+ℤ◌, ◌*ℤ◌, nat_abs, ◌≤ℤ◌, ◌<ℤ◌, refl, ◌∙◌, arith}
+-- What the decay does, and that a memory stays in range. Only rounds_down, and the proof of the function that computes it,
+-- look into the definition of the decay. The range here, and the laws over histories, rest on decay_law.
+use Rattle.std.proofs.Common.{◌≡◌, ℕ, ◌<◌, ◌≤◌, ℤ, pos, negsuc, ◌+ℤ◌, ◌*ℤ◌, nat_abs, ◌≤ℤ◌, ◌<ℤ◌, arith}
 use Rattle.std.specs.Int.{int_div_euclid}
 use Rattle.std.proofs.lemmas.Int.{ints}
-use Rattle.lsp.specs.Decay.{decay_rule, decay, DecayLaw, RoundsDown}
+use Rattle.lsp.specs.Decay.{memory_limit, decay, DecayLaw, RoundsDown}
+use Rattle.lsp.specs.Quantizers.{largest_value}
 use Rattle.lsp.specs.States.{bound}
 
 -- the quotient rounded down
 pub floored : (z : ℤ) (d : ℕ) → 0 < d → ((pos d *ℤ int_div_euclid z (pos d)) ≤ℤ z) × (z <ℤ (pos d *ℤ int_div_euclid z (pos d) +ℤ pos d))
 floored (pos a) d h = omega (arith, ints)
 floored (negsuc a) d h = omega (arith, ints)
-
-pub decay_is : (m : ℤ) → decay_rule m ≡ decay m
-unfolding decay
-decay_is m = refl
 
 pub rounds_down : (m : ℤ) → RoundsDown m
 unfolding decay
@@ -37,10 +34,10 @@ decay_law m =
 -- ---- the range
 
 -- the decay of a memory is small enough to be a memory
-pub decay_small : (m d : ℤ) → d ≡ decay_rule m → nat_abs m < 2 ^ 33 → nat_abs d < 2 ^ 33
-decay_small m d e h = omega (arith, ints, e ∙ decay_is m, decay_law m)
+pub decay_small : (m d : ℤ) → d ≡ decay m → nat_abs m < memory_limit → nat_abs d < memory_limit
+decay_small m d e h = omega (arith, ints, e, decay_law m)
 
-pub bound_most : (i : ℕ) → bound i ≤ 2 ^ 33
+pub bound_most : (i : ℕ) → bound i ≤ memory_limit
 unfolding bound
 bound_most i = omega arith
 
@@ -52,6 +49,6 @@ pub decay_in : (i : ℕ) (m : ℤ) → nat_abs m < bound i → nat_abs (decay m)
 unfolding bound
 decay_in i m h = omega (arith, ints, decay_law m)
 
-pub update_in : (i : ℕ) (v m : ℤ) → nat_abs v ≤ 756940800 → nat_abs m < bound i → nat_abs (v +ℤ decay m) < bound i
+pub update_in : (i : ℕ) (v m : ℤ) → nat_abs v ≤ largest_value → nat_abs m < bound i → nat_abs (v +ℤ decay m) < bound i
 unfolding bound
 update_in i v m k h = omega (arith, ints, decay_law m)

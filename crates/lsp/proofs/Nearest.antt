@@ -6,7 +6,7 @@ use Rattle.std.proofs.lemmas.Bool.{cases_lt, ltb-true}
 use Rattle.service.specs.declared.rates.Rate.{Rate}
 use Rattle.service.specs.declared.rates.Rate.TheVariants.{Full, Half, Quarter, Eighth}
 use Rattle.service.proofs.Computed.{all_below, all_at}
-use Rattle.lsp.specs.Quantizers.{top_code, half_step, step_of, code_of}
+use Rattle.lsp.specs.Quantizers.{top_code, half_step, unlimited_code, code_of}
 use Rattle.lsp.specs.Laws.{NearestCode}
 use Rattle.lsp.proofs.Decays.{floored}
 use Rattle.lsp.proofs.Sizes.{distrib_minus}
@@ -74,5 +74,5 @@ nearest_code rate i lt w c le =
     let t = top_code rate in
     let x = w +ℤ pos (t * h) in
     let f = floored (x +ℤ pos h) (2 * h) (omega (arith, step_least rate i lt)) in
-    let n = from_step h t x c le (step_of rate i w) f.0 f.1 in
+    let n = from_step h t x c le (unlimited_code rate i w) f.0 f.1 in
     rw (value_is (code_of rate i w) t h, value_is c t h) (shifted w (2 * (code_of rate i w * h)) (2 * (c * h)) (t * h) n)

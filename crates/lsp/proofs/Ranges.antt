@@ -1,7 +1,7 @@
 -- The ten memories stay in range, and ten codes within their rate.
 use Rattle.std.proofs.Common.{◌≡◌, ℕ, ◌<◌, ◌≤◌, List, get_or, ℤ, pos, nat_abs, sym, subst}
 use Rattle.service.specs.declared.rates.Rate.{Rate}
-use Rattle.lsp.specs.Quantizers.{Within, top_code, value_of, step_of, quantized}
+use Rattle.lsp.specs.Quantizers.{Within, top_code, value_of, unlimited_code, quantized}
 use Rattle.lsp.specs.States.{bound, InRange, fresh, updated, decayed}
 use Rattle.lsp.proofs.Sizes.{value_most, limited_most}
 use Rattle.lsp.proofs.Tens.{each_of_ten}
@@ -26,4 +26,4 @@ updated_in rate codes m n e w h =
 pub quantized_within : (rate : Rate) (offsets : List ℤ) (codes : List ℕ) → codes ≡ quantized rate offsets → Within rate codes
 quantized_within rate offsets codes e =
     subst (Within rate) (sym e)
-    (each_of_ten _ 0 (λ i c. c ≤ top_code rate) (λ i lt. limited_most rate (step_of rate i (get_or offsets i (pos 0)))))
+    (each_of_ten _ 0 (λ i c. c ≤ top_code rate) (λ i lt. limited_most rate (unlimited_code rate i (get_or offsets i (pos 0)))))

@@ -8,7 +8,7 @@ use Rattle.lsp.specs.Ten.{ten}
 use Rattle.lsp.specs.Quantizers.{value_of}
 use Rattle.lsp.specs.Decay.{decay}
 use Rattle.lsp.specs.States.{fresh, updated, decayed}
-use Rattle.lsp.specs.Histories.{Event, packet, erasure, blank, restart, after, exponent, unrounded, without_blanks}
+use Rattle.lsp.specs.Histories.{Event, packet, erasure, blank, restart, after, exponent, numerator, without_blanks}
 use Rattle.lsp.specs.Laws.{StaysInRange, WithinRounding, Rounding, Agree, Agreement, EndsAgree}
 use Rattle.lsp.proofs.Sizes.{distrib}
 use Rattle.lsp.proofs.Tens.{get_or_ten, each_of_ten}
@@ -55,11 +55,11 @@ rounding (packet rate codes ∷ past) =
     each_of_ten _ (pos 0) (λ i m. WithinRounding i (packet rate codes ∷ past) m)
     (λ i lt.
     rw (pow32 (exponent past))
-    (update_close (value_of rate i (get_or codes i 0)) (get_or (after fresh past) i (pos 0)) (unrounded i past) (32 ^ exponent past) (rounding past i lt)))
+    (update_close (value_of rate i (get_or codes i 0)) (get_or (after fresh past) i (pos 0)) (numerator i past) (32 ^ exponent past) (rounding past i lt)))
 rounding (erasure ∷ past) =
     each_of_ten _ (pos 0) (λ i m. WithinRounding i (erasure ∷ past) m)
     (λ i lt.
-    rw (pow32 (exponent past)) (decay_close (get_or (after fresh past) i (pos 0)) (unrounded i past) (32 ^ exponent past) (rounding past i lt)))
+    rw (pow32 (exponent past)) (decay_close (get_or (after fresh past) i (pos 0)) (numerator i past) (32 ^ exponent past) (rounding past i lt)))
 rounding (blank ∷ past) = rounding past
 rounding (restart ∷ past) = each_of_ten _ (pos 0) (λ i m. WithinRounding i (restart ∷ past) m) (λ i lt. omega arith)
 

@@ -5,7 +5,7 @@ use Rattle.std.specs.List.{AllByRecursion as All}
 use Rattle.std.proofs.lemmas.Int.{ints, clamps, unsigned_abs-mul}
 use Rattle.service.specs.declared.rates.Rate.{Rate}
 use Rattle.service.specs.declared.rates.Rate.TheVariants.{Full, Half, Quarter, Eighth}
-use Rattle.lsp.specs.Quantizers.{levels, top_code, half_step, value_of, limited}
+use Rattle.lsp.specs.Quantizers.{levels, largest_value, top_code, half_step, value_of, limited}
 
 get_or_most : (b : ℕ) (xs : List ℕ) (i : ℕ) → All (λ x. x ≤ b) xs → get_or xs i 0 ≤ b
 get_or_most b [] i h = omega arith
@@ -18,14 +18,13 @@ level_most Half i = get_or_most 70 (levels Half) i (omega arith)
 level_most Quarter i = get_or_most 70 (levels Quarter) i (omega arith)
 level_most Eighth i = get_or_most 70 (levels Eighth) i (omega arith)
 
--- the largest value of a code is at most 70 × 165 × 65,536
-pub reach : (rate : Rate) (i : ℕ) → top_code rate * half_step rate i ≤ 756940800
+pub reach : (rate : Rate) (i : ℕ) → top_code rate * half_step rate i ≤ largest_value
 reach Full i = omega (arith, level_most Full i)
 reach Half i = omega (arith, level_most Half i)
 reach Quarter i = omega (arith, level_most Quarter i)
 reach Eighth i = omega (arith, level_most Eighth i)
 
-pub value_most : (rate : Rate) (i c : ℕ) → c ≤ top_code rate → nat_abs (value_of rate i c) ≤ 756940800
+pub value_most : (rate : Rate) (i c : ℕ) → c ≤ top_code rate → nat_abs (value_of rate i c) ≤ largest_value
 value_most rate i c h =
     let d : nat_abs (pos (2 * c) -ℤ pos (top_code rate)) ≤ top_code rate = omega (arith, ints) in
     omega (

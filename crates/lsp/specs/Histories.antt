@@ -28,13 +28,13 @@ exponent (erasure ∷ past) = exponent past + 1
 exponent (blank ∷ past) = exponent past
 exponent (restart ∷ past) = 0
 
-abbrev pub unrounded : ℕ → List Event → ℤ
-unrounded i [] = pos 0
-unrounded i (packet rate codes ∷ past) =
-    pos (32 ^ (exponent past + 1)) *ℤ value_of rate i (slice_index codes i) +ℤ pos 29 *ℤ unrounded i past
-unrounded i (erasure ∷ past) = pos 29 *ℤ unrounded i past
-unrounded i (blank ∷ past) = unrounded i past
-unrounded i (restart ∷ past) = pos 0
+abbrev pub numerator : ℕ → List Event → ℤ
+numerator i [] = pos 0
+numerator i (packet rate codes ∷ past) =
+    pos (32 ^ (exponent past + 1)) *ℤ value_of rate i (slice_index codes i) +ℤ pos 29 *ℤ numerator i past
+numerator i (erasure ∷ past) = pos 29 *ℤ numerator i past
+numerator i (blank ∷ past) = numerator i past
+numerator i (restart ∷ past) = pos 0
 
 -- the codes of every packet are within their rate
 abbrev pub Lawful : List Event → Type 0

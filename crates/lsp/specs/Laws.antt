@@ -3,7 +3,7 @@ use Rattle.std.specs.Prelude.{◌≡◌, ℕ, ◌*◌, ◌^◌, ◌<◌, ◌≤�
 use Rattle.service.specs.declared.rates.Rate.{Rate}
 use Rattle.lsp.specs.Quantizers.{top_code, value_of, code_of}
 use Rattle.lsp.specs.States.{InRange, fresh}
-use Rattle.lsp.specs.Histories.{Event, after, exponent, unrounded, Lawful, without_blanks}
+use Rattle.lsp.specs.Histories.{Event, after, exponent, numerator, Lawful, without_blanks}
 
 -- the code of a code's value is that code
 abbrev pub CodeOfValue : Type 0
@@ -20,7 +20,7 @@ StaysInRange = (m : List ℤ) → InRange m → (past : List Event) → Lawful p
 
 -- the memory m of the LSP at index i is within 16/3 grains of its unrounded value: 3 × |m × 32^t - U| ≤ 16 × 32^t
 abbrev pub WithinRounding : ℕ → List Event → ℤ → Type 0
-WithinRounding i past m = 3 * unsigned_abs (m *ℤ pos (32 ^ exponent past) -ℤ unrounded i past) ≤ 16 * 32 ^ exponent past
+WithinRounding i past m = 3 * unsigned_abs (m *ℤ pos (32 ^ exponent past) -ℤ numerator i past) ≤ 16 * 32 ^ exponent past
 
 -- every memory is within 16/3 grains of its unrounded value, after every history
 abbrev pub Rounding : Type 0

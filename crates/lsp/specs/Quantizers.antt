@@ -6,7 +6,7 @@ use Rattle.service.specs.declared.rates.Rate.{Rate}
 use Rattle.service.specs.declared.rates.Rate.TheVariants.{Full, Half, Quarter, Eighth}
 use Rattle.lsp.specs.Ten.{ten}
 
--- the largest levels of LSP 1 to 10, in thousandths of the sampling frequency
+-- the largest levels of LSP 1 to 10, in thousandths of the sampling frequency (table A.1.4.3.2.7-2)
 abbrev pub levels : Rate → List ℕ
 levels Full = 25 ∷ 40 ∷ 70 ∷ 70 ∷ 60 ∷ 60 ∷ 50 ∷ 50 ∷ 40 ∷ 40 ∷ []
 levels Half = 15 ∷ 15 ∷ 30 ∷ 30 ∷ 30 ∷ 20 ∷ 20 ∷ 20 ∷ 20 ∷ 20 ∷ []
@@ -28,17 +28,21 @@ half_step rate i = slice_index (levels rate) i * (165 / top_code rate) * 65536
 abbrev pub value_of : Rate → ℕ → ℕ → ℤ
 value_of rate i c = (pos (2 * c) -ℤ pos (top_code rate)) *ℤ pos (half_step rate i)
 
--- The code of an offset w: (w + M × h + h) / (2 × h) rounded down, then limited to 0 to M. int_div_euclid rounds down, since
--- the divisor is above 0.
-abbrev pub step_of : Rate → ℕ → ℤ → ℤ
-step_of rate i w =
+-- no value of a code is above this in size: the largest of all levels, 70 thousandths
+abbrev pub largest_value : ℕ
+largest_value = 70 * 165 * 65536
+
+-- The code of an offset w: (w + M × h + h) / (2 × h) rounded down, then limited to 0 to M. So an offset midway between the
+-- values of two codes has the higher code. int_div_euclid rounds down, since the divisor is above 0.
+abbrev pub unlimited_code : Rate → ℕ → ℤ → ℤ
+unlimited_code rate i w =
     int_div_euclid (w +ℤ pos (top_code rate * half_step rate i) +ℤ pos (half_step rate i)) (pos (2 * half_step rate i))
 
 abbrev pub limited : Rate → ℤ → ℕ
 limited rate n = unsigned_abs (int_max (pos 0) (int_min n (pos (top_code rate))))
 
 abbrev pub code_of : Rate → ℕ → ℤ → ℕ
-code_of rate i w = limited rate (step_of rate i w)
+code_of rate i w = limited rate (unlimited_code rate i w)
 
 -- ten codes of a rate: none is above its top code
 abbrev pub Within : Rate → List ℕ → Type 0

@@ -1,7 +1,7 @@
 //! The ten LSP codes of a packet.
 ghost use Rattle.std.specs.Prelude.{◌≡◌, ◌*◌, ◌≤◌, MatchResult, slice_index, unsigned_abs};
 ghost use Rattle.service.specs.Refusals.{refusal_is, refused};
-ghost use Rattle.lsp.specs.Quantizers.{Within, quantized, value_of, values};
+ghost use Rattle.lsp.specs.Quantizers.{Within, largest_value, quantized, value_of, values};
 
 use crate::quantizers::{Quantizer, top_code};
 use crate::ten::Lsp;
@@ -61,11 +61,11 @@ impl LspCodes {
         Lsp::each(|lsp| self.value(lsp))
     }
 
-    // The value of the code of one LSP, at most 70 × 165 × 65,536 grains in size.
+    // The value of the code of one LSP.
     #[tactic(auto, using(crate::proofs::Sizes::value_most))]
     pub(crate) fn value(self, lsp: Lsp) -> i64
         ensures value { result ≡ value_of self.rate lsp.index (slice_index self.codes lsp.index) }
-        ensures size { unsigned_abs result ≤ 70 * 165 * 65536 }
+        ensures size { unsigned_abs result ≤ largest_value }
     {
         Quantizer {
             rate: self.rate,

@@ -1,18 +1,19 @@
 //! The quantizers: what a code stands for at each rate, and the code of an offset (IS-96, A.1.4.3.2.7).
 ghost use Rattle.std.specs.Prelude.{◌≡◌, ◌≤◌, pos, slice_index};
-ghost use Rattle.lsp.specs.Quantizers.{code_of, half_step, levels, limited, step_of, top_code, value_of};
+ghost use Rattle.lsp.specs.Quantizers.{code_of, half_step, levels, limited, unlimited_code, top_code, value_of};
 
 use crate::ten::Lsp;
 use service::Rate;
 
-// The largest levels of LSP 1 to 10, in thousandths of the sampling frequency.
+// The largest levels of LSP 1 to 10, in thousandths of the sampling frequency (table A.1.4.3.2.7-2). Rates 1/4 and 1/8 have
+// the same ones.
 const FULL_RATE_LEVELS: [i64; 10] = [25, 40, 70, 70, 60, 60, 50, 50, 40, 40];
 
 const HALF_RATE_LEVELS: [i64; 10] = [15, 15, 30, 30, 30, 20, 20, 20, 20, 20];
 
 const LOW_RATE_LEVELS: [i64; 10] = [10; 10];
 
-// A thousandth of the sampling frequency is 165 × 65,536 grains. Every M divides 165.
+// A thousandth of the sampling frequency is 165 units of 65,536 grains. Every M divides 165.
 const UNITS_PER_THOUSANDTH: i64 = 165;
 
 const GRAINS_PER_UNIT: i64 = 65_536;
@@ -70,8 +71,8 @@ impl Quantizer {
 
     // The code of the offset w before it is limited, below 0 or above M for offsets beyond the quantizer's reach. In 128
     // bits no offset is too large.
-    fn step_number(self, w: i64) -> i128
-        ensures { result ≡ step_of self.rate self.lsp.index w }
+    fn unlimited_code(self, w: i64) -> i128
+        ensures { result ≡ unlimited_code self.rate self.lsp.index w }
     {
         let h = i128::from(self.half_step());
         let m = i128::from(top_code(self.rate));
@@ -82,6 +83,6 @@ impl Quantizer {
     pub(crate) fn code(self, w: i64) -> u8
         ensures { result ≡ code_of self.rate self.lsp.index w }
     {
-        limit(self.rate, self.step_number(w))
+        limit(self.rate, self.unlimited_code(w))
     }
 }

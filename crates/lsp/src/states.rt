@@ -88,7 +88,6 @@ impl Memories {
     }
 
     // D(m) of the memory of one LSP.
-    #[tactic(auto, using(crate::proofs::Decays::decay_is))]
     fn decayed_memory(self, lsp: Lsp) -> Memory
         ensures { result.grains ≡ decay (slice_index_or self.grains lsp.index (pos 0)) }
     {

@@ -44,7 +44,7 @@ fn run(rt: &HostRuntime) -> anyhow::Result<()> {
     Ok(())
 }
 
-/// Prints the rows of one rate.
+// Prints the rows of one rate.
 fn print_rate(rt: &HostRuntime, rate: Rate) -> anyhow::Result<()> {
     for code in 0..=top_code(rate) {
         let row = Row(LspCodes::new(rate, [code; 10])?);
@@ -53,7 +53,7 @@ fn print_rate(rt: &HostRuntime, rate: Rate) -> anyhow::Result<()> {
     Ok(())
 }
 
-/// The row of the first of ten codes.
+// The row of the first of ten codes.
 #[derive(Clone, Copy)]
 struct Row(LspCodes);
 

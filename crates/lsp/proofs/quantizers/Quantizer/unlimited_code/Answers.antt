@@ -4,8 +4,8 @@ use mir.Syntax.{w128}
 use Rattle.std.proofs.lemmas.Int.{to_z-of_z, ints}
 use Rattle.lsp.specs.Quantizers.{top_code, half_step}
 use Rattle.lsp.proofs.Sizes.{reach}
-use Rattle.lsp.proofs.quantizers.Quantizer.step_number.Goals as goal
-use Rattle.lsp.proofs.quantizers.Quantizer.step_number.Goals.{After-from}
+use Rattle.lsp.proofs.quantizers.Quantizer.unlimited_code.Goals as goal
+use Rattle.lsp.proofs.quantizers.Quantizer.unlimited_code.Goals.{After-from}
 
 -- a number that goes to its bits and back, as every result of the code does
 abbrev back : ℤ → ℤ
