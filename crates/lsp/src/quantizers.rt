@@ -1,6 +1,6 @@
 //! The quantizers: what a code stands for at each rate, and the code of an offset (IS-96, A.1.4.3.2.7).
-ghost use Rattle.std.specs.Prelude.{◌≡◌, ◌≤◌, pos, slice_index};
-ghost use Rattle.lsp.specs.Quantizers.{code_of, half_step, levels, limited, unlimited_code, top_code, value_of};
+ghost use Rattle.std.specs.Prelude.{◌≡◌, ◌+◌, ◌*◌, ◌≤◌, ◌+ℤ◌, ◌-ℤ◌, pos, slice_index, unsigned_abs};
+ghost use Rattle.lsp.specs.Quantizers.{code_of, half_step, largest_value, levels, limited, top_code, unlimited_code, value_of};
 
 use crate::ten::Lsp;
 use service::Rate;
@@ -61,22 +61,59 @@ impl Quantizer {
         self.level() * (UNITS_PER_THOUSANDTH / i64::from(top_code(self.rate))) * GRAINS_PER_UNIT
     }
 
+    // How many half steps the value of the code c is above 0: 2 × c − M.
+    fn half_steps(self, c: u8) -> i64
+        ensures { result ≡ pos (2 * c) -ℤ pos (top_code self.rate) }
+    {
+        2 * i64::from(c) - i64::from(top_code(self.rate))
+    }
+
     // The value of the code c, v(c).
+    #[tactic(auto, using(crate::proofs::Sizes::product_fits, crate::proofs::Sizes::product_is))]
     pub(crate) fn value(self, c: u8) -> i64
         requires { c ≤ top_code self.rate }
         ensures { result ≡ value_of self.rate self.lsp.index c }
     {
-        (2 * i64::from(c) - i64::from(top_code(self.rate))) * self.half_step()
+        self.half_steps(c) * self.half_step()
     }
 
-    // The code of the offset w before it is limited, below 0 or above M for offsets beyond the quantizer's reach. In 128
-    // bits no offset is too large.
+    // M × h. It is the largest level in grains, since every M divides 165.
+    #[tactic(auto, using(crate::proofs::Sizes::level_grains))]
+    fn level_grains(self) -> i64
+        ensures value { result ≡ pos (top_code self.rate * half_step self.rate self.lsp.index) }
+        ensures size { unsigned_abs result ≤ largest_value }
+    {
+        self.level() * UNITS_PER_THOUSANDTH * GRAINS_PER_UNIT
+    }
+
+    // The step 2 × h from the value of a code to that of the next.
+    fn step(self) -> i128
+        ensures { result ≡ pos (2 * half_step self.rate self.lsp.index) }
+    {
+        2 * i128::from(self.half_step())
+    }
+
+    // M × h + h: how far below 0 the lower edge of code 0 is, half a step below its value.
+    fn lowest_edge(self) -> i64
+        ensures value { result ≡ pos (top_code self.rate * half_step self.rate self.lsp.index + half_step self.rate self.lsp.index) }
+        ensures size { unsigned_abs result ≤ 2 * largest_value }
+    {
+        self.level_grains() + self.half_step()
+    }
+
+    // How far the offset w is above the lower edge of code 0. In 128 bits no offset is too large.
+    fn above_lowest_edge(self, w: i64) -> i128
+        ensures { result ≡ w +ℤ pos (top_code self.rate * half_step self.rate self.lsp.index)
+            +ℤ pos (half_step self.rate self.lsp.index) }
+    {
+        i128::from(w) + i128::from(self.lowest_edge())
+    }
+
+    // The code of the offset w before it is limited, below 0 or above M for offsets beyond the quantizer's reach.
     fn unlimited_code(self, w: i64) -> i128
         ensures { result ≡ unlimited_code self.rate self.lsp.index w }
     {
-        let h = i128::from(self.half_step());
-        let m = i128::from(top_code(self.rate));
-        (i128::from(w) + m * h + h).div_euclid(2 * h)
+        self.above_lowest_edge(w).div_euclid(self.step())
     }
 
     // The code of the offset w.
