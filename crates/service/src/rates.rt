@@ -63,4 +63,27 @@ impl Rate {
     {
         self.packet_bits().div_ceil(8)
     }
+    /// How many pitch subframes a frame has: PLAG and PGAIN stand once for each.
+    pub fn pitch_subframes(self) -> usize
+        ensures { result ≡ (rate_is self).pitch_subframes }
+    {
+        match self {
+            Rate::Eighth => 0,
+            Rate::Quarter => 1,
+            Rate::Half => 2,
+            Rate::Full => 4,
+        }
+    }
+
+    /// How many codebook subframes a frame has: CBGAIN stands once for each, and CBINDEX too but at Rate 1/8.
+    pub fn codebook_subframes(self) -> usize
+        ensures { result ≡ (rate_is self).codebook_subframes }
+    {
+        match self {
+            Rate::Eighth => 1,
+            Rate::Quarter => 2,
+            Rate::Half => 4,
+            Rate::Full => 8,
+        }
+    }
 }
