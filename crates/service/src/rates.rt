@@ -63,6 +63,7 @@ impl Rate {
     {
         self.packet_bits().div_ceil(8)
     }
+
     /// How many pitch subframes a frame has: PLAG and PGAIN stand once for each.
     pub fn pitch_subframes(self) -> usize
         ensures { result ≡ (rate_is self).pitch_subframes }
