@@ -1,0 +1,4 @@
+pub mod Tables
+pub mod Rows
+pub mod Numbers
+pub mod Reading

@@ -1,0 +1,101 @@
+//! Packing the codes of a frame, and reading them back, written once for every kind of packet.
+ghost use Rattle.std.specs.Prelude.{◌≡◌, ℕ, ◌+◌, ◌*◌, ◌^◌, ◌++◌, ◌≤◌, ◌<◌, bit_or, drop, length, slice_index, slice_set};
+ghost use Rattle.service.specs.Rates.{rate_is};
+ghost use Rattle.packet_layout.specs.CodeBits.{index};
+ghost use Rattle.packet.specs.Bits.{ReadsTo, bit_at, byte_of, carried, packet_of, value};
+
+use crate::kinds::PacketKind;
+use packet_layout::CodeBit;
+
+/// The 36 codes of a frame in order, PCB last.
+pub(crate) type Row = [u16; 36];
+
+// A code bit of the row.
+fn bit(row: &Row, c: CodeBit) -> u8
+    requires code { index c < 36 }
+    requires number { c.2 < 16 }
+    ensures { result ≡ value row.now (Some c) }
+{
+    (row[c.index()] >> c.2 & 1) as u8
+}
+
+// The bit that a place of the packet carries; 0 at a spare place.
+#[tactic(auto, using(crate::proofs::Rows::carried_some, crate::proofs::Rows::carried_none, crate::proofs::Rows::index_lt, crate::proofs::Rows::number_of_bit_lt))]
+fn packed_bit<K: PacketKind>(row: &Row, place: usize) -> u8
+    ensures { result ≡ carried K.rate row.now place }
+{
+    match K::code_bit(place) {
+        None => 0,
+        Some(c) => bit(row, c),
+    }
+}
+
+// A byte of the packet.
+#[tactic(auto, using(crate::proofs::Rows::bits_none, crate::proofs::Rows::bits_more, crate::proofs::Rows::bits_lt, crate::proofs::Rows::carried_lt, crate::proofs::Rows::byte_is))]
+fn packed_byte<K: PacketKind>(row: &Row, index: usize) -> u8
+    requires { index < 22 }
+    ensures { result ≡ byte_of K.rate row.now index }
+{
+    let mut byte = 0;
+    for t in 0..8 {
+        byte = byte * 2 + packed_bit::<K>(row, 8 * index + t);
+    }
+    byte
+}
+
+/// Writes the packet of the row from the buffer's start, and keeps the rest.
+#[tactic(auto, using(crate::proofs::Rows::filled_none, crate::proofs::Rows::filled_more, crate::proofs::Rows::filled_all))]
+pub(crate) fn write<K: PacketKind>(row: &Row, bytes: usize, out: &mut [u8])
+    requires kind { bytes ≡ (rate_is K.rate).bytes }
+    requires room { bytes ≤ length out.old }
+    ensures { out.new ≡ packet_of K.rate row.now ++ drop bytes out.old }
+{
+    for index in 0..bytes {
+        out[index] = packed_byte::<K>(row, index);
+    }
+}
+
+// The bit at a place of a packet.
+fn bit_at(packet: &[u8], place: usize) -> u8
+    requires { place < 8 * length packet.now }
+    ensures { result ≡ bit_at packet.now place }
+{
+    packet[place / 8] >> (7 - place % 8) & 1
+}
+
+// Sets a code bit of the row to a bit, if it is 0.
+#[tactic(auto, using(crate::proofs::Numbers::shifted_whole))]
+fn mark(row: &mut Row, c: CodeBit, bit: u8)
+    requires code { index c < 36 }
+    requires number { c.2 < 16 }
+    requires bit { bit < 2 }
+    ensures { row.new ≡ slice_set row.old (index c) (bit_or (slice_index row.old (index c)) (bit * 2 ^ c.2)) }
+{
+    row[c.index()] |= u16::from(bit) << c.2;
+}
+
+// Reads one place more.
+#[tactic(auto, using(crate::proofs::Reading::reads_spare, crate::proofs::Reading::reads_bit, crate::proofs::Numbers::bit_lt, crate::proofs::Rows::index_lt, crate::proofs::Rows::number_of_bit_lt))]
+fn read_place<K: PacketKind>(row: &mut Row, packet: &[u8], place: usize)
+    requires place { place < 8 * length packet.now }
+    requires before { ReadsTo K.rate place packet.now row.old }
+    ensures { ReadsTo K.rate (place + 1) packet.now row.new }
+{
+    if let Some(c) = K::code_bit(place) {
+        mark(row, c, bit_at(packet, place));
+    }
+}
+
+/// The row that a packet holds. Its spare bits are not looked at.
+#[tactic(auto, using(crate::proofs::Reading::reads_none))]
+pub(crate) fn read<K: PacketKind>(packet: &[u8], bits: usize) -> Row
+    requires kind { bits ≡ (rate_is K.rate).bits }
+    requires long { bits ≤ 8 * length packet.now }
+    ensures { ReadsTo K.rate bits packet.now result }
+{
+    let mut row = [0; 36];
+    for place in 0..bits {
+        read_place::<K>(&mut row, packet, place);
+    }
+    row
+}

@@ -1,0 +1,99 @@
+-- A code bit by the index of its code and its bit.
+use Rattle.std.proofs.Common.{◌≡◌, ℕ, ◌+◌, ◌-◌, ◌<◌, ◌≤◌, cond, refl, sym, ◌∙◌, ap, arith, nat_lt, rules}
+use Rattle.service.specs.declared.rates.Rate.{Rate}
+use Rattle.service.specs.declared.rates.Rate.TheVariants.{Full, Half, Quarter, Eighth}
+use Rattle.packet_layout.specs.declared.code_bits.Code.{Code}
+use Rattle.packet_layout.specs.declared.code_bits.Code.TheVariants.{Lsp, Plag, Pgain, Cbindex, Cbgain, Cbseed, Pcb}
+use Rattle.packet_layout.specs.declared.code_bits.CodeBit.{CodeBit}
+use Rattle.packet_layout.specs.CodeBits.{code_bit, count, width, first, index, Has}
+
+-- how many codes of a name there are at the rate that has most
+abbrev pub most : Code → ℕ
+most Lsp = 10
+most Plag = 4
+most Pgain = 4
+most Cbindex = 8
+most Cbgain = 8
+most Cbseed = 1
+most Pcb = 1
+
+pub count_most : (rate : Rate) (name : Code) → count rate name ≤ most name
+count_most rate Lsp = omega arith
+count_most Full Plag = omega arith
+count_most Half Plag = omega arith
+count_most Quarter Plag = omega arith
+count_most Eighth Plag = omega arith
+count_most Full Pgain = omega arith
+count_most Half Pgain = omega arith
+count_most Quarter Pgain = omega arith
+count_most Eighth Pgain = omega arith
+count_most Full Cbindex = omega arith
+count_most Half Cbindex = omega arith
+count_most Quarter Cbindex = omega arith
+count_most Eighth Cbindex = omega arith
+count_most Full Cbgain = omega arith
+count_most Half Cbgain = omega arith
+count_most Quarter Cbgain = omega arith
+count_most Eighth Cbgain = omega arith
+count_most Full Cbseed = omega arith
+count_most Half Cbseed = omega arith
+count_most Quarter Cbseed = omega arith
+count_most Eighth Cbseed = omega arith
+count_most Full Pcb = omega arith
+count_most Half Pcb = omega arith
+count_most Quarter Pcb = omega arith
+count_most Eighth Pcb = omega arith
+
+abbrev pub code_at : ℕ → ℕ → CodeBit
+code_at s b =
+    cond (nat_lt s 10) (code_bit Lsp (s + 1) b) (cond (nat_lt s 14) (code_bit Plag (s - 9) b) (cond (nat_lt s 18) (code_bit Pgain (s - 13) b)
+    (cond (nat_lt s 26) (code_bit Cbindex (s - 17) b) (cond (nat_lt s 34) (code_bit Cbgain (s - 25) b)
+    (cond (nat_lt s 35) (code_bit Cbseed 1 b) (code_bit Pcb 1 b))))))
+
+named : (name : Code) (n b : ℕ) → 1 ≤ n → n ≤ most name → code_at (first name + n - 1) b ≡ code_bit name n b
+named Lsp n b h l = grind (arith)
+named Plag n b h l = grind (arith)
+named Pgain n b h l = grind (arith)
+named Cbindex n b h l = grind (arith)
+named Cbgain n b h l = grind (arith)
+named Cbseed n b h l = grind (arith)
+named Pcb n b h l = grind (arith)
+
+-- a code bit of the rate is the one at its index and its bit, so no other has both
+pub back : (rate : Rate) (c : CodeBit) → Has rate c → code_at (index c) c.2 ≡ c
+back rate c h = named c.0 c.1 c.2 h.from (omega (arith, h.to, count_most rate c.0))
+
+pub same : (rate : Rate) (c d : CodeBit) → Has rate c → Has rate d → index c ≡ index d → c.2 ≡ d.2 → c ≡ d
+same rate c d hc hd ei eb = sym (back rate c hc) ∙ ap (λ s. code_at s c.2) ei ∙ ap (λ b. code_at (index d) b) eb ∙ back rate d hd
+
+-- each code of a rate is one of the 36
+below : (name : Code) (n : ℕ) → n ≤ most name → first name + n - 1 < 36
+below Lsp n l = omega arith
+below Plag n l = omega arith
+below Pgain n l = omega arith
+below Cbindex n l = omega arith
+below Cbgain n l = omega arith
+below Cbseed n l = omega arith
+below Pcb n l = omega arith
+
+pub index_lt : (rate : Rate) (c : CodeBit) → Has rate c → index c < 36
+index_lt rate c h = below c.0 c.1 (omega (arith, h.to, count_most rate c.0))
+
+narrow : (rate : Rate) (name : Code) → width rate name ≤ 11
+narrow Full Lsp = omega arith
+narrow Half Lsp = omega arith
+narrow Quarter Lsp = omega arith
+narrow Eighth Lsp = omega arith
+narrow rate Plag = omega arith
+narrow rate Pgain = omega arith
+narrow rate Cbindex = omega arith
+narrow Full Cbgain = omega arith
+narrow Half Cbgain = omega arith
+narrow Quarter Cbgain = omega arith
+narrow Eighth Cbgain = omega arith
+narrow rate Cbseed = omega arith
+narrow rate Pcb = omega arith
+
+-- and no bit of one has a number above 10
+pub bit_lt : (rate : Rate) (c : CodeBit) → Has rate c → c.2 < 11
+bit_lt rate c h = omega (arith, h.bit, narrow rate c.0)

@@ -1,0 +1,72 @@
+-- The codes of a frame and their bits, named as IS-96 names them: LSP1[3] is bit 3 of LSP code 1. Assumes nothing.
+use Rattle.std.specs.Prelude.{ℕ, ◌+◌, ◌-◌, ◌<◌, ◌≤◌, cond, nat_lt}
+use Rattle.service.specs.declared.rates.Rate.{Rate}
+use Rattle.service.specs.declared.rates.Rate.TheVariants.{Full, Half, Quarter, Eighth}
+use Rattle.service.specs.Rates.{rate_is}
+use Rattle.packet_layout.specs.declared.code_bits.Code.{Code}
+use Rattle.packet_layout.specs.declared.code_bits.Code.TheVariants.{Lsp, Plag, Pgain, Cbindex, Cbgain, Cbseed, Pcb}
+use Rattle.packet_layout.specs.declared.code_bits.CodeBit.{CodeBit}
+
+-- bit b of code n of this name, as LSP1[3] for Lsp 1 3; CBSEED and PCB have the number 1
+abbrev pub code_bit : Code → ℕ → ℕ → CodeBit
+code_bit name n b = record { 0 = name; 1 = n; 2 = b }
+
+-- how many codes of this name a frame has; at Rate 1/8 CBSEED stands in place of CBINDEX, and only Rate 1 has PCB
+abbrev pub count : Rate → Code → ℕ
+count rate Lsp = 10
+count rate Plag = (rate_is rate).pitch_subframes
+count rate Pgain = (rate_is rate).pitch_subframes
+count Eighth Cbindex = 0
+count Quarter Cbindex = 2
+count Half Cbindex = 4
+count Full Cbindex = 8
+count rate Cbgain = (rate_is rate).codebook_subframes
+count Eighth Cbseed = 1
+count Quarter Cbseed = 0
+count Half Cbseed = 0
+count Full Cbseed = 0
+count Eighth Pcb = 0
+count Quarter Pcb = 0
+count Half Pcb = 0
+count Full Pcb = 1
+
+-- how many bits each code of this name has, if the rate has the code
+abbrev pub width : Rate → Code → ℕ
+width Full Lsp = 4
+width Half Lsp = 2
+width Quarter Lsp = 1
+width Eighth Lsp = 1
+width rate Plag = 7
+width rate Pgain = 3
+width rate Cbindex = 7
+width Full Cbgain = 3
+width Half Cbgain = 3
+width Quarter Cbgain = 3
+width Eighth Cbgain = 2
+width rate Cbseed = 4
+width rate Pcb = 11
+
+-- the code bits of a packet
+pub record Has (rate : Rate) (c : CodeBit) : Type 0 where
+  pub from : 1 ≤ c.1
+  pub to : c.1 ≤ count rate c.0
+  pub bit : c.2 < width rate c.0
+
+-- how many bits the code of this name at an index from 0 has: none if the rate lacks it
+abbrev pub bits_at : Rate → Code → ℕ → ℕ
+bits_at rate name i = cond (nat_lt i (count rate name)) (width rate name) 0
+
+-- The codes of a frame in order are LSP 1 to 10, PLAG 1 to 4, PGAIN 1 to 4, CBINDEX 1 to 8, CBGAIN 1 to 8, CBSEED and PCB:
+-- where the codes of this name begin, counted from 0
+abbrev pub first : Code → ℕ
+first Lsp = 0
+first Plag = 10
+first Pgain = 14
+first Cbindex = 18
+first Cbgain = 26
+first Cbseed = 34
+first Pcb = 35
+
+-- where the code of a code bit stands in that order
+abbrev pub index : CodeBit → ℕ
+index c = first c.0 + c.1 - 1

@@ -1,0 +1,3 @@
+pub mod CodeBits
+pub mod Layouts
+pub mod Laws

@@ -1,0 +1,37 @@
+//! The bits of the codes, named as IS-96 names them.
+ghost use Rattle.std.specs.Prelude.{◌≡◌};
+ghost use Rattle.packet_layout.specs.CodeBits.{index};
+
+/// A code of a frame by its name. A name's number is where its codes begin among the 36 of a frame, which stand in this order:
+/// LSP 1 to 10, PLAG 1 to 4, PGAIN 1 to 4, CBINDEX 1 to 8, CBGAIN 1 to 8, CBSEED and PCB.
+#[derive(Clone, Copy, PartialEq, Eq, Debug)]
+pub enum Code {
+    /// Line spectral pairs.
+    Lsp = 0,
+    /// Pitch lags.
+    Plag = 10,
+    /// Pitch gains.
+    Pgain = 14,
+    /// Codebook indexes.
+    Cbindex = 18,
+    /// Codebook gains.
+    Cbgain = 26,
+    /// The codebook seed of Rate 1/8.
+    Cbseed = 34,
+    /// The parity check bits of Rate 1.
+    Pcb = 35,
+}
+
+/// A bit of a code: `CodeBit(Code::Lsp, 1, 3)` is LSP1[3]. Codes count from 1; CBSEED and PCB have the number 1.
+#[derive(Clone, Copy, PartialEq, Eq, Debug)]
+pub struct CodeBit(pub Code, pub u8, pub u8);
+
+impl CodeBit {
+    /// Where the code stands among the 36 of a frame, counted from 0. A code number 0, which no code has, counts as 1 would at
+    /// the first code, and else as the code before.
+    pub fn index(self) -> usize
+        ensures { result ≡ index self }
+    {
+        (self.0 as usize + usize::from(self.1)).saturating_sub(1)
+    }
+}
