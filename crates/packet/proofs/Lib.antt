@@ -1,4 +1,7 @@
 pub mod Tables
-pub mod Rows
+pub mod Carried
 pub mod Numbers
 pub mod Reading
+pub mod Fields
+pub mod Messages
+pub mod Held

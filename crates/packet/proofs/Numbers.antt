@@ -1,10 +1,10 @@
 -- Bits of a number, and numbers made of bits.
-use Rattle.std.proofs.Common.{◌≡◌, ℕ, zero, suc, ◌+◌, ◌-◌, ◌*◌, ◌/◌, ◌%◌, ◌^◌, ◌<◌, ◌≤◌, ◌≢◌, inl, inr, refl, sym, ◌∙◌, ap, arith, pow-suc, add-one, mul_assoc, zero-mul}
-use Rattle.std.proofs.Math.Nat.{zero-div, div-eq_of_lt}
-use Rattle.std.specs.Int.Bits.{bit_and, bit_or, or_shr, or_mod, or_zero_l, or_zero_r, or_lt, shifted_even}
+use Rattle.std.proofs.Common.{◌≡◌, ℕ, zero, suc, ◌+◌, ◌-◌, ◌*◌, ◌/◌, ◌%◌, ◌^◌, ◌<◌, ◌≤◌, ◌≢◌, if◌then◌else◌, nat_lt, inl, inr, refl, sym, ◌∙◌, ap, arith, pow-suc, add-one, mul_assoc, zero-mul}
+use native.Mathlib.Nat.{zero-div, div-eq_of_lt, lt-div-mul-add}
+use Rattle.std.specs.Int.Bits.{bit_or, or_shr, or_mod, shifted_even}
 use Rattle.std.proofs.Math.Pow.{pow_mono}
-use Rattle.std.proofs.lemmas.Bool.{cases_order}
-use Rattle.std.proofs.lemmas.Nat.{and_mask, pow-add, pow_pos, shl-shr, shr-shr, shl_below, shl_whole, shr_le, shr_split, mod_below}
+use Rattle.std.proofs.lemmas.Bool.{cases_lt, cases_order}
+use Rattle.std.proofs.lemmas.Nat.{pow-add, pow_pos, shl-shr, shr-shr, shl_below, shl_whole, shr_le, shr_split, mod_below}
 use Rattle.packet.specs.Bits.{bit, number_of}
 
 pub bit_lt : (n b : ℕ) → bit n b < 2
@@ -69,10 +69,14 @@ same_bits (suc w) m n hm hn same =
     let low : m % 2 ≡ n % 2 = sym (bit_lowest m) ∙ same 0 (omega arith) ∙ bit_lowest n in
     omega arith
 
+below_pow : (n : ℕ) → n < 2 ^ n
+below_pow zero = omega arith
+below_pow (suc n) = omega (arith, below_pow n, pow-suc 2 n)
+
 -- a number of which all bits from w up are 0 has w bits
-pub width_of : (v n w : ℕ) → n < 2 ^ v → ((b : ℕ) → w ≤ b → bit n b ≡ 0) → n < 2 ^ w
-width_of v n w h none =
-    let q : n / 2 ^ w ≡ 0 = same_bits v (n / 2 ^ w) 0 (omega (arith, shr_le n w)) (pow_pos v)
+pub width_of : (n w : ℕ) → ((b : ℕ) → w ≤ b → bit n b ≡ 0) → n < 2 ^ w
+width_of n w none =
+    let q : n / 2 ^ w ≡ 0 = same_bits n (n / 2 ^ w) 0 (omega (arith, shr_le n w, below_pow n)) (pow_pos n)
     (λ b _. ap (λ y. y % 2) (shr-shr n w b) ∙ none (w + b) (omega arith) ∙ sym (bit_of_zero b)) in
     let e = shr_split n w in
     let z : n / 2 ^ w * 2 ^ w ≡ 0 = ap (λ y. y * 2 ^ w) q ∙ zero-mul (2 ^ w) in
@@ -89,3 +93,10 @@ module _ (f : ℕ → ℕ) (small : (k : ℕ) → f k < 2) where
   bit_of_number (suc n) (suc b) h =
       let half : (number_of f n * 2 + f n) / 2 ≡ number_of f n = omega (arith, small n) in
       bit_half (number_of f n * 2 + f n) b ∙ ap (λ m. bit m b) half ∙ bit_of_number n b (omega arith) ∙ ap f (omega arith)
+
+-- whether a code has a bit from bit n up, as `unbounded_shr` by n tells
+pub fits : (n b : ℕ) → b < 2 ^ 8 → (if nat_lt n 8 then b / 2 ^ n else 0) ≡ 0 → b < 2 ^ n
+fits n b l e = elim (cases_lt n 8) [ inl k ↦ grind (arith, pow_pos n, lt-div-mul-add) | inr k ↦ grind (arith, pow_mono k) ]
+
+pub fits_not : (n b : ℕ) → (if nat_lt n 8 then b / 2 ^ n else 0) ≢ 0 → 2 ^ n ≤ b
+fits_not n b e = grind (arith, div-eq_of_lt)

@@ -1,5 +1,5 @@
 -- The tables of the code are the layouts.
-use Rattle.std.proofs.Common.{◌≡◌, ℕ, refl, ap, sym, slice_get}
+use Rattle.std.proofs.Common.{◌≡◌, ℕ, refl, ap, slice_get}
 use Rattle.service.specs.declared.rates.Rate.TheVariants.{Full, Half, Quarter, Eighth}
 use Rattle.packet_layout.specs.Layouts.{at, layout}
 use Rattle.packet.specs.declared.kinds.TheConstants.{FULL, HALF, QUARTER, EIGHTH}

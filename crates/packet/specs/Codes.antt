@@ -1,9 +1,9 @@
 -- The codes of a frame. Assumes nothing.
-use Rattle.std.specs.Prelude.{ℕ, ◌^◌, ◌<◌, List, [], ◌∷◌, ◌++◌, length, slice_index}
+use Rattle.std.specs.Prelude.{ℕ, ◌^◌, ◌<◌, List, [], ◌∷◌, ◌++◌, length, slice_index, take, drop}
 use Rattle.service.specs.declared.rates.Rate.{Rate}
 use Rattle.packet_layout.specs.declared.code_bits.Code.{Code}
 use Rattle.packet_layout.specs.declared.code_bits.Code.TheVariants.{Lsp, Plag, Pgain, Cbindex, Cbgain, Cbseed}
-use Rattle.packet_layout.specs.CodeBits.{bits_at}
+use Rattle.packet_layout.specs.CodeBits.{bits_at, first}
 use Rattle.packet.specs.declared.codes.CodeNumbers.{CodeNumbers}
 
 -- each code of a name is within its width, so that a code that the rate lacks is zero
@@ -22,3 +22,18 @@ pub record Within (rate : Rate) (c : CodeNumbers) : Type 0 where
 -- the codes of a frame in order
 abbrev pub in_order : CodeNumbers → List ℕ
 in_order c = c.lsp ++ (c.plag ++ (c.pgain ++ (c.cbindex ++ (c.cbgain ++ (c.cbseed ∷ [])))))
+
+-- the 36 codes of a frame in order: these, and PCB
+abbrev pub row_of : CodeNumbers → ℕ → List ℕ
+row_of c pcb = in_order c ++ (pcb ∷ [])
+
+-- the codes that stand in this order
+abbrev pub numbers_of : List ℕ → CodeNumbers
+numbers_of row = record {
+  lsp = take 10 (drop (first Lsp) row);
+  plag = take 4 (drop (first Plag) row);
+  pgain = take 4 (drop (first Pgain) row);
+  cbindex = take 8 (drop (first Cbindex) row);
+  cbgain = take 8 (drop (first Cbgain) row);
+  cbseed = slice_index row (first Cbseed);
+}

@@ -1,2 +1,5 @@
 pub mod Codes
 pub mod Bits
+pub mod CheckBits
+pub mod Calls
+pub mod Unpacking

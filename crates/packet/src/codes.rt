@@ -1,6 +1,22 @@
 //! The codes of a frame.
+ghost use Rattle.std.specs.Prelude.{◌≡◌, ◌^◌, ◌++◌, ◌<◌, ◌≤◌, MatchBool, MatchResult, drop, length};
+ghost use Rattle.service.specs.Rates.{rate_is};
+ghost use Rattle.service.specs.Refusals.{refusal_is, refused};
+ghost use Rattle.packet_layout.specs.CodeBits.{bits_at};
+ghost use Rattle.packet.specs.Bits.{ReadsTo, packet_of};
+ghost use Rattle.packet.specs.Calls.{Holds, PacksCodes};
+ghost use Rattle.packet.specs.Codes.{Fits, Within};
 
-/// The codes of a frame as plain numbers.
+use crate::kinds::{EighthPacket, FullPacket, HalfPacket, QuarterPacket};
+use crate::packing::{read, write};
+use crate::rows::{Row, from_row, packet_row};
+use packet_layout::Code;
+use service::{Category, Fault, Rate, Refusal};
+
+// What faults name in place of a record: a packet that stands alone has none.
+const NO_RECORD: u32 = 0;
+
+/// The codes of a frame as plain numbers, with no check bits.
 #[derive(Clone, Copy, PartialEq, Eq, Debug, Default)]
 pub struct CodeNumbers {
     /// LSP 1 to 10.
@@ -15,4 +31,146 @@ pub struct CodeNumbers {
     pub cbgain: [u8; 8],
     /// CBSEED.
     pub cbseed: u8,
+}
+
+/// The codes of a frame at a rate: each is within its width, and those that the rate lacks are zero.
+#[derive(Clone, Copy, PartialEq, Eq, Debug)]
+pub struct Codes {
+    rate: Rate,
+    numbers: CodeNumbers,
+    ghost within: { Within rate numbers },
+}
+
+impl Codes {
+    ghost use Rattle.packet.specs.Unpacking.{UnpacksCodes};
+
+    /// These codes, or refusal 17 if one is too wide for the rate or the rate lacks one that is not zero.
+    pub fn new(rate: Rate, numbers: CodeNumbers) -> Result<Codes, Refusal>
+        ensures { MatchResult result (λ c. (c.rate ≡ rate) × (c.numbers ≡ numbers))
+            (λ e. (refusal_is e ≡ refused 17) × (Within rate numbers → ⊥)) }
+    {
+        if !fit_all(rate, &numbers) {
+            return Err(Refusal::Codes);
+        }
+        Ok(Codes { rate, numbers })
+    }
+
+    /// The rate.
+    pub fn rate(self) -> Rate
+        ensures { result ≡ self.rate }
+    {
+        self.rate
+    }
+
+    /// The codes as plain numbers.
+    pub fn numbers(self) -> CodeNumbers
+        ensures value { result ≡ self.numbers }
+        ensures within { Within self.rate result }
+    {
+        self.numbers
+    }
+
+    /// Writes the packet of the codes, with its check bits, from the buffer's start, keeps the rest of the buffer, and answers
+    /// the packet's length; or refusal 16 if the buffer is too short, which leaves it as it was.
+    pub fn pack(self, out: &mut [u8]) -> Result<usize, Refusal>
+        ensures { PacksCodes self.rate self.numbers out.old out.new result }
+    {
+        let bytes = self.rate.packet_bytes();
+        if out.len() < bytes {
+            return Err(Refusal::ShortBuffer);
+        }
+        let row = packet_row(self.rate, &self.numbers);
+        write_at(self.rate, &row, bytes, out);
+        Ok(bytes)
+    }
+
+    /// The codes that a packet holds, whatever its check bits; or, with record 0, fault 6 if it does not have the length of
+    /// the rate, and then fault 9 if a spare bit is set.
+    pub fn unpack(rate: Rate, packet: &[u8]) -> Result<Codes, Fault>
+        ensures { UnpacksCodes rate packet.now result }
+    {
+        let category = Category::from(rate);
+        category.check_length(packet.len(), NO_RECORD)?;
+        category.check_spare_bits(packet, NO_RECORD)?;
+        let numbers = held(rate, packet);
+        Ok(Codes { rate, numbers })
+    }
+}
+
+// Writes the packet of the row at a rate.
+fn write_at(rate: Rate, row: &Row, bytes: usize, out: &mut [u8])
+    requires kind { bytes ≡ (rate_is rate).bytes }
+    requires room { bytes ≤ length out.old }
+    ensures { out.new ≡ packet_of rate row.now ++ drop bytes out.old }
+{
+    match rate {
+        Rate::Full => write::<FullPacket>(row, bytes, out),
+        Rate::Half => write::<HalfPacket>(row, bytes, out),
+        Rate::Quarter => write::<QuarterPacket>(row, bytes, out),
+        Rate::Eighth => write::<EighthPacket>(row, bytes, out),
+    }
+}
+
+// The row that a packet holds at a rate.
+fn read_at(rate: Rate, packet: &[u8]) -> Row
+    requires { length packet.now ≡ (rate_is rate).bytes }
+    ensures { ReadsTo rate (rate_is rate).bits packet.now result }
+{
+    let bits = rate.packet_bits();
+    match rate {
+        Rate::Full => read::<FullPacket>(packet, bits),
+        Rate::Half => read::<HalfPacket>(packet, bits),
+        Rate::Quarter => read::<QuarterPacket>(packet, bits),
+        Rate::Eighth => read::<EighthPacket>(packet, bits),
+    }
+}
+
+// The codes that a packet holds at a rate.
+#[tactic(auto, using(crate::proofs::Held::read_narrow, crate::proofs::Held::read_holds))]
+fn held(rate: Rate, packet: &[u8]) -> CodeNumbers
+    requires { length packet.now ≡ (rate_is rate).bytes }
+    ensures { Holds rate packet.now result }
+{
+    from_row(&read_at(rate, packet))
+}
+
+// How many bits the code of this name at an index has: none if the rate lacks it.
+fn bits_at(rate: Rate, name: Code, index: usize) -> u32
+    ensures { result ≡ bits_at rate name index }
+{
+    if index < name.count(rate) {
+        name.width(rate)
+    } else {
+        0
+    }
+}
+
+// Whether a code has at most so many bits.
+#[tactic(auto, using(crate::proofs::Numbers::fits, crate::proofs::Numbers::fits_not))]
+fn within(code: u8, bits: u32) -> bool
+    ensures { MatchBool result (code < 2 ^ bits) (2 ^ bits ≤ code) }
+{
+    code.unbounded_shr(bits) == 0
+}
+
+// Whether each code of a name is within its width.
+fn fit(rate: Rate, name: Code, codes: &[u8]) -> bool
+    ensures { MatchBool result (Fits rate name codes.now) (Fits rate name codes.now → ⊥) }
+{
+    codes
+        .iter()
+        .enumerate()
+        .all(|(i, code)| within(*code, bits_at(rate, name, i)))
+}
+
+// Whether all codes of a frame are.
+fn fit_all(rate: Rate, c: &CodeNumbers) -> bool
+    ensures { MatchBool result (Within rate c.now) (Within rate c.now → ⊥) }
+{
+    fit(rate, Code::Lsp, &c.lsp)
+        && fit(rate, Code::Plag, &c.plag)
+        && fit(rate, Code::Pgain, &c.pgain)
+        && fit(rate, Code::Cbindex, &c.cbindex)
+        && fit(rate, Code::Cbgain, &c.cbgain)
+        && fit(rate, Code::Cbseed, &[c.cbseed])
 }

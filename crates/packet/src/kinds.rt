@@ -22,8 +22,8 @@ pub(crate) trait PacketKind {
     ghost each_once: { EachCodeBitOnce rate (layout rate) };
 }
 
-// The code bit at a place of a table.
-fn carried(table: &[CodeBit], place: usize) -> Option<CodeBit>
+/// The code bit at a place of a table.
+pub(crate) fn code_bit_at(table: &[CodeBit], place: usize) -> Option<CodeBit>
     ensures { result ≡ slice_get table.now place }
 {
     table.get(place).copied()
@@ -214,7 +214,7 @@ impl PacketKind for FullPacket {
 
     #[tactic(auto, using(crate::proofs::Tables::full))]
     fn code_bit(place: usize) -> Option<CodeBit> {
-        carried(&FULL, place)
+        code_bit_at(&FULL, place)
     }
 }
 
@@ -312,7 +312,7 @@ impl PacketKind for HalfPacket {
 
     #[tactic(auto, using(crate::proofs::Tables::half))]
     fn code_bit(place: usize) -> Option<CodeBit> {
-        carried(&HALF, place)
+        code_bit_at(&HALF, place)
     }
 }
 
@@ -370,7 +370,7 @@ impl PacketKind for QuarterPacket {
 
     #[tactic(auto, using(crate::proofs::Tables::quarter))]
     fn code_bit(place: usize) -> Option<CodeBit> {
-        carried(&QUARTER, place)
+        code_bit_at(&QUARTER, place)
     }
 }
 
@@ -404,6 +404,6 @@ impl PacketKind for EighthPacket {
 
     #[tactic(auto, using(crate::proofs::Tables::eighth))]
     fn code_bit(place: usize) -> Option<CodeBit> {
-        carried(&EIGHTH, place)
+        code_bit_at(&EIGHTH, place)
     }
 }

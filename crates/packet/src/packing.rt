@@ -4,23 +4,13 @@ ghost use Rattle.service.specs.Rates.{rate_is};
 ghost use Rattle.packet_layout.specs.CodeBits.{index};
 ghost use Rattle.packet.specs.Bits.{ReadsTo, bit_at, byte_of, carried, packet_of, value};
 
+use crate::check_bits::bit;
 use crate::kinds::PacketKind;
+use crate::rows::Row;
 use packet_layout::CodeBit;
 
-/// The 36 codes of a frame in order, PCB last.
-pub(crate) type Row = [u16; 36];
-
-// A code bit of the row.
-fn bit(row: &Row, c: CodeBit) -> u8
-    requires code { index c < 36 }
-    requires number { c.2 < 16 }
-    ensures { result ≡ value row.now (Some c) }
-{
-    (row[c.index()] >> c.2 & 1) as u8
-}
-
 // The bit that a place of the packet carries; 0 at a spare place.
-#[tactic(auto, using(crate::proofs::Rows::carried_some, crate::proofs::Rows::carried_none, crate::proofs::Rows::index_lt, crate::proofs::Rows::number_of_bit_lt))]
+#[tactic(auto, using(crate::proofs::Carried::carried_some, crate::proofs::Carried::carried_none, crate::proofs::Carried::index_lt, crate::proofs::Carried::number_of_bit_lt))]
 fn packed_bit<K: PacketKind>(row: &Row, place: usize) -> u8
     ensures { result ≡ carried K.rate row.now place }
 {
@@ -31,7 +21,7 @@ fn packed_bit<K: PacketKind>(row: &Row, place: usize) -> u8
 }
 
 // A byte of the packet.
-#[tactic(auto, using(crate::proofs::Rows::bits_none, crate::proofs::Rows::bits_more, crate::proofs::Rows::bits_lt, crate::proofs::Rows::carried_lt, crate::proofs::Rows::byte_is))]
+#[tactic(auto, using(crate::proofs::Carried::bits_none, crate::proofs::Carried::bits_more, crate::proofs::Carried::bits_lt, crate::proofs::Carried::carried_lt, crate::proofs::Carried::byte_is))]
 fn packed_byte<K: PacketKind>(row: &Row, index: usize) -> u8
     requires { index < 22 }
     ensures { result ≡ byte_of K.rate row.now index }
@@ -44,7 +34,7 @@ fn packed_byte<K: PacketKind>(row: &Row, index: usize) -> u8
 }
 
 /// Writes the packet of the row from the buffer's start, and keeps the rest.
-#[tactic(auto, using(crate::proofs::Rows::filled_none, crate::proofs::Rows::filled_more, crate::proofs::Rows::filled_all))]
+#[tactic(auto, using(crate::proofs::Carried::filled_none, crate::proofs::Carried::filled_more, crate::proofs::Carried::filled_all))]
 pub(crate) fn write<K: PacketKind>(row: &Row, bytes: usize, out: &mut [u8])
     requires kind { bytes ≡ (rate_is K.rate).bytes }
     requires room { bytes ≤ length out.old }
@@ -75,7 +65,7 @@ fn mark(row: &mut Row, c: CodeBit, bit: u8)
 }
 
 // Reads one place more.
-#[tactic(auto, using(crate::proofs::Reading::reads_spare, crate::proofs::Reading::reads_bit, crate::proofs::Numbers::bit_lt, crate::proofs::Rows::index_lt, crate::proofs::Rows::number_of_bit_lt))]
+#[tactic(auto, using(crate::proofs::Reading::reads_spare, crate::proofs::Reading::reads_bit, crate::proofs::Numbers::bit_lt, crate::proofs::Carried::index_lt, crate::proofs::Carried::number_of_bit_lt))]
 fn read_place<K: PacketKind>(row: &mut Row, packet: &[u8], place: usize)
     requires place { place < 8 * length packet.now }
     requires before { ReadsTo K.rate place packet.now row.old }

@@ -1,5 +1,5 @@
 -- A code bit by the index of its code and its bit.
-use Rattle.std.proofs.Common.{◌≡◌, ℕ, ◌+◌, ◌-◌, ◌<◌, ◌≤◌, cond, refl, sym, ◌∙◌, ap, arith, nat_lt, rules}
+use Rattle.std.proofs.Common.{◌≡◌, ℕ, ◌+◌, ◌-◌, ◌<◌, ◌≤◌, cond, refl, sym, ◌∙◌, ap, arith, nat_lt}
 use Rattle.service.specs.declared.rates.Rate.{Rate}
 use Rattle.service.specs.declared.rates.Rate.TheVariants.{Full, Half, Quarter, Eighth}
 use Rattle.packet_layout.specs.declared.code_bits.Code.{Code}
@@ -50,7 +50,7 @@ code_at s b =
     (cond (nat_lt s 26) (code_bit Cbindex (s - 17) b) (cond (nat_lt s 34) (code_bit Cbgain (s - 25) b)
     (cond (nat_lt s 35) (code_bit Cbseed 1 b) (code_bit Pcb 1 b))))))
 
-named : (name : Code) (n b : ℕ) → 1 ≤ n → n ≤ most name → code_at (first name + n - 1) b ≡ code_bit name n b
+pub named : (name : Code) (n b : ℕ) → 1 ≤ n → n ≤ most name → code_at (first name + n - 1) b ≡ code_bit name n b
 named Lsp n b h l = grind (arith)
 named Plag n b h l = grind (arith)
 named Pgain n b h l = grind (arith)
@@ -67,7 +67,7 @@ pub same : (rate : Rate) (c d : CodeBit) → Has rate c → Has rate d → index
 same rate c d hc hd ei eb = sym (back rate c hc) ∙ ap (λ s. code_at s c.2) ei ∙ ap (λ b. code_at (index d) b) eb ∙ back rate d hd
 
 -- each code of a rate is one of the 36
-below : (name : Code) (n : ℕ) → n ≤ most name → first name + n - 1 < 36
+pub below : (name : Code) (n : ℕ) → n ≤ most name → first name + n - 1 < 36
 below Lsp n l = omega arith
 below Plag n l = omega arith
 below Pgain n l = omega arith
@@ -94,6 +94,38 @@ narrow Eighth Cbgain = omega arith
 narrow rate Cbseed = omega arith
 narrow rate Pcb = omega arith
 
+-- and one of the 35 if it is not PCB
+below_pcb : (name : Code) (n : ℕ) → (name ≡ Pcb → ⊥) → n ≤ most name → first name + n - 1 < 35
+below_pcb Lsp n other l = omega arith
+below_pcb Plag n other l = omega arith
+below_pcb Pgain n other l = omega arith
+below_pcb Cbindex n other l = omega arith
+below_pcb Cbgain n other l = omega arith
+below_pcb Cbseed n other l = omega arith
+below_pcb Pcb n other l = absurd (other refl)
+
+pub index_lt_pcb : (rate : Rate) (c : CodeBit) → Has rate c → (c.0 ≡ Pcb → ⊥) → index c < 35
+index_lt_pcb rate c h other = below_pcb c.0 c.1 other (omega (arith, h.to, count_most rate c.0))
+
 -- and no bit of one has a number above 10
 pub bit_lt : (rate : Rate) (c : CodeBit) → Has rate c → c.2 < 11
 bit_lt rate c h = omega (arith, h.bit, narrow rate c.0)
+
+-- and, but for PCB, none above 6
+narrower : (rate : Rate) (name : Code) (n : ℕ) → 1 ≤ n → first name + n - 1 < 35 → width rate name ≤ 7
+narrower Full Lsp n f l = omega arith
+narrower Half Lsp n f l = omega arith
+narrower Quarter Lsp n f l = omega arith
+narrower Eighth Lsp n f l = omega arith
+narrower rate Plag n f l = omega arith
+narrower rate Pgain n f l = omega arith
+narrower rate Cbindex n f l = omega arith
+narrower Full Cbgain n f l = omega arith
+narrower Half Cbgain n f l = omega arith
+narrower Quarter Cbgain n f l = omega arith
+narrower Eighth Cbgain n f l = omega arith
+narrower rate Cbseed n f l = omega arith
+narrower rate Pcb n f l = absurd (omega arith)
+
+pub bit_lt_code : (rate : Rate) (c : CodeBit) → Has rate c → index c < 35 → c.2 < 7
+bit_lt_code rate c h l = omega (arith, h.bit, narrower rate c.0 c.1 h.from l)

@@ -1,5 +1,5 @@
 -- The law of a layout, from tests that antt computes over the whole of it.
-use Rattle.std.proofs.Common.{◌≡◌, ℕ, zero, suc, ◌+◌, ◌-◌, ◌<◌, ◌≤◌, Bool, true, false, not, ◌&&◌, ◌||◌, List, [], ◌∷◌, length, Option, Some, None, slice_get, is_some, refl, sym, ◌∙◌, ap, subst, inl, inr, arith, nat_lt, nat_eq, rules}
+use Rattle.std.proofs.Common.{◌≡◌, ℕ, zero, suc, ◌+◌, ◌-◌, ◌<◌, ◌≤◌, Bool, true, false, not, ◌&&◌, ◌||◌, List, [], ◌∷◌, length, Option, Some, None, is_some, refl, sym, ◌∙◌, ap, subst, inl, inr, arith, nat_lt, nat_eq}
 use Rattle.std.proofs.lemmas.Bool.{and_parts, or_cases, or_left, or_right, cases_lt, false≢true}
 use Rattle.std.proofs.lemmas.Bool.Decides.{nat_tests}
 use Rattle.service.specs.declared.rates.Rate.{Rate}
@@ -7,7 +7,7 @@ use Rattle.service.specs.Rates.{rate_is}
 use Rattle.packet_layout.specs.declared.code_bits.Code.{Code}
 use Rattle.packet_layout.specs.declared.code_bits.Code.TheVariants.{Lsp, Plag, Pgain, Cbindex, Cbgain, Cbseed, Pcb}
 use Rattle.packet_layout.specs.declared.code_bits.CodeBit.{CodeBit}
-use Rattle.packet_layout.specs.CodeBits.{code_bit, count, width, first, index, Has}
+use Rattle.packet_layout.specs.CodeBits.{count, width, first, index, Has}
 use Rattle.packet_layout.specs.Layouts.{at}
 use Rattle.packet_layout.specs.Laws.{Once, EachCodeBitOnce}
 use Rattle.packet_layout.proofs.Names.{same}
@@ -106,7 +106,7 @@ alone (d ∷ cs) t (suc j) (suc k) c ej ek = ap suc (alone cs (and_parts (not (s
 has_true : (rate : Rate) (c : CodeBit) → has rate c ≡ true → Has rate c
 has_true rate c t = record { from = grind (arith, nat_tests); to = grind (arith, nat_tests); bit = grind (arith, nat_tests) }
 
-all_have : (rate : Rate) (places : List CodeBit) → all_of rate places ≡ true → (k : ℕ) (c : CodeBit) → at places k ≡ Some c → Has rate c
+pub all_have : (rate : Rate) (places : List CodeBit) → all_of rate places ≡ true → (k : ℕ) (c : CodeBit) → at places k ≡ Some c → Has rate c
 all_have rate [] t k c e = absurd (none_some c e)
 all_have rate (d ∷ cs) t zero c e = subst (Has rate) (same_some d c e) (has_true rate d (and_parts (has rate d) (all_of rate cs) t).0)
 all_have rate (d ∷ cs) t (suc k) c e = all_have rate cs (and_parts (has rate d) (all_of rate cs) t).1 k c e
@@ -150,3 +150,15 @@ module _ (rate : Rate) (places : List CodeBit) (stand : all_stand rate places �
 
   pub each_code_bit_once : EachCodeBitOnce rate places
   each_code_bit_once = record { once = one_place; carried = carried; bits = long }
+
+-- a place that carries a code bit is one of the places
+pub place_lt : (places : List CodeBit) (k : ℕ) (c : CodeBit) → at places k ≡ Some c → k < length places
+place_lt [] k c e = absurd (none_some c e)
+place_lt (d ∷ cs) zero c e = omega arith
+place_lt (d ∷ cs) (suc k) c e = omega (arith, place_lt cs k c e)
+
+-- and a place that carries none is not
+pub none_le : (places : List CodeBit) (k : ℕ) → at places k ≡ None → length places ≤ k
+none_le [] k e = omega arith
+none_le (d ∷ cs) zero e = absurd (none_some d (sym e))
+none_le (d ∷ cs) (suc k) e = omega (arith, none_le cs k e)

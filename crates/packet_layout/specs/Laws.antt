@@ -1,12 +1,12 @@
 -- What the layouts promise. Assumes nothing.
-use Rattle.std.specs.Prelude.{◌≡◌, ℕ, ◌-◌, ◌*◌, ◌≤◌, List, length, Some, Option, slice_get}
+use Rattle.std.specs.Prelude.{◌≡◌, ℕ, ◌-◌, ◌<◌, List, length, Some, slice_index, slice_get}
 use Rattle.service.specs.declared.rates.Rate.{Rate}
 use Rattle.service.specs.declared.rates.Rate.TheVariants.{Full}
 use Rattle.service.specs.Rates.{rate_is}
-use Rattle.packet_layout.specs.declared.code_bits.Code.TheVariants.{Lsp, Cbgain, Pcb}
 use Rattle.packet_layout.specs.declared.code_bits.CodeBit.{CodeBit}
-use Rattle.packet_layout.specs.CodeBits.{Has, code_bit}
+use Rattle.packet_layout.specs.CodeBits.{Has}
 use Rattle.packet_layout.specs.Layouts.{at, layout}
+use Rattle.packet_layout.specs.Guarded.{guarded, guarded_bits}
 
 -- a code bit stands at exactly one place
 abbrev pub Once : List CodeBit → CodeBit → Type 0
@@ -26,9 +26,6 @@ EachCodeBitOnceAtEachRate = (rate : Rate) → EachCodeBitOnce rate (layout rate)
 abbrev pub place : Rate → ℕ → ℕ
 place rate n = (rate_is rate).bits - 1 - n
 
--- where the guarded bits of a Rate 1 packet stand, by the numbers of the packet bits
-pub record GuardedPlaces : Type 0 where
-  pub lsp : (i : ℕ) → 1 ≤ i → i ≤ 10 → at (layout Full) (place Full (171 - 2 * i)) ≡ Some (code_bit Lsp i 3)
-  pub cbgain : (k : ℕ) → 1 ≤ k → k ≤ 8 → at (layout Full) (place Full (151 - 8 * k)) ≡ Some (code_bit Cbgain k 1)
-  pub pcb : (j : ℕ) → 1 ≤ j → j ≤ 10 → at (layout Full) (place Full (8 * j - 1)) ≡ Some (code_bit Pcb 1 j)
-  pub pcb0 : at (layout Full) (place Full 0) ≡ Some (code_bit Pcb 1 0)
+-- the guarded bits of a Rate 1 packet stand at the packet bits of these numbers
+abbrev pub GuardedPlaces : Type 0
+GuardedPlaces = (i : ℕ) → i < 29 → at (layout Full) (place Full (slice_index guarded_bits i)) ≡ slice_get guarded i

@@ -1,3 +1,4 @@
 pub mod CodeBits
 pub mod Layouts
+pub mod Guarded
 pub mod Laws

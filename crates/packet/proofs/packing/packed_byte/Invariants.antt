@@ -1,5 +1,5 @@
 use Rattle.std.proofs.Common.{◌≡◌}
-use Rattle.packet.proofs.Rows.{first_bits}
+use Rattle.packet.proofs.Carried.{first_bits}
 use Rattle.packet.proofs.packing.packed_byte.Given as goal
 
 -- the bits so far

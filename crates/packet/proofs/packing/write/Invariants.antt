@@ -1,5 +1,5 @@
 use Rattle.std.proofs.Common.{◌≡◌}
-use Rattle.packet.proofs.Rows.{filled}
+use Rattle.packet.proofs.Carried.{filled}
 use Rattle.packet.proofs.packing.write.Given as goal
 
 -- the bytes so far are written

@@ -28,7 +28,7 @@ index_lt rate k c law e = has_index_lt rate c (law.carried k c e)
 pub number_of_bit_lt : (rate : Rate) (k : ℕ) (c : CodeBit) → EachCodeBitOnce rate (layout rate) → at (layout rate) k ≡ Some c → c.2 < 11
 number_of_bit_lt rate k c law e = has_bit_lt rate c (law.carried k c e)
 
-value_lt : (row : List ℕ) (o : Option CodeBit) → value row o < 2
+pub value_lt : (row : List ℕ) (o : Option CodeBit) → value row o < 2
 value_lt row None = omega arith
 value_lt row (Some c) = bit_lt (slice_index row (index c)) c.2
 

@@ -1,0 +1,79 @@
+//! The check bits of a Rate 1 packet.
+ghost use Rattle.std.specs.Prelude.{◌≡◌, ◌<◌, Some, slice_get};
+ghost use Rattle.packet_layout.specs.CodeBits.{index};
+ghost use Rattle.packet_layout.specs.Guarded.{guarded_code_bits};
+ghost use Rattle.packet.specs.Bits.{value};
+ghost use Rattle.packet.specs.CheckBits.{message_of, transmitted};
+
+use crate::kinds::code_bit_at;
+use crate::rows::Row;
+use cyclic::Message;
+use packet_layout::Code::{Cbgain, Lsp};
+use packet_layout::CodeBit;
+
+// The guarded code bits, from x^17 of a(x) down to x^0.
+const GUARDED: [CodeBit; 18] = [
+    CodeBit(Lsp, 1, 3),
+    CodeBit(Lsp, 2, 3),
+    CodeBit(Lsp, 3, 3),
+    CodeBit(Lsp, 4, 3),
+    CodeBit(Lsp, 5, 3),
+    CodeBit(Lsp, 6, 3),
+    CodeBit(Lsp, 7, 3),
+    CodeBit(Lsp, 8, 3),
+    CodeBit(Lsp, 9, 3),
+    CodeBit(Lsp, 10, 3),
+    CodeBit(Cbgain, 1, 1),
+    CodeBit(Cbgain, 2, 1),
+    CodeBit(Cbgain, 3, 1),
+    CodeBit(Cbgain, 4, 1),
+    CodeBit(Cbgain, 5, 1),
+    CodeBit(Cbgain, 6, 1),
+    CodeBit(Cbgain, 7, 1),
+    CodeBit(Cbgain, 8, 1),
+];
+
+// How many bits PCB has.
+const PCB_BITS: u32 = 11;
+
+// PCB[1] to PCB[10] are inverted for transmission, and PCB[0] is not.
+const INVERSION: u16 = 0b111_1111_1110;
+
+/// A code bit of the row.
+pub(crate) fn bit(row: &Row, c: CodeBit) -> u8
+    requires code { index c < 36 }
+    requires number { c.2 < 16 }
+    ensures { result ≡ value row.now (Some c) }
+{
+    (row[c.index()] >> c.2 & 1) as u8
+}
+
+// A guarded code bit of the row: that at x^(17 - i) of a(x), or 0 past the last.
+#[tactic(auto, using(crate::proofs::Messages::guarded_index, crate::proofs::Messages::guarded_number, crate::proofs::Messages::table))]
+fn guarded_bit(row: &Row, i: usize) -> u8
+    ensures { result ≡ value row.now (slice_get guarded_code_bits i) }
+{
+    match code_bit_at(&GUARDED, i) {
+        None => 0,
+        Some(c) => bit(row, c),
+    }
+}
+
+// a(x) of the row.
+#[tactic(auto, using(crate::proofs::Messages::guarded_none, crate::proofs::Messages::guarded_more, crate::proofs::Messages::guarded_lt, crate::proofs::Messages::message_is))]
+fn message(row: &Row) -> Message
+    ensures { result.bits ≡ message_of row.now }
+{
+    let mut bits = 0;
+    for i in 0..GUARDED.len() {
+        bits = bits * 2 + u32::from(guarded_bit(row, i));
+    }
+    Message::new(bits).unwrap()
+}
+
+/// PCB of a Rate 1 packet as it is transmitted.
+pub(crate) fn check_bits(row: &Row) -> u16
+    ensures { result ≡ transmitted (message_of row.now) }
+{
+    (message(row).word().bits() % (1 << PCB_BITS)) as u16 ^ INVERSION
+}
