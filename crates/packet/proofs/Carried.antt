@@ -14,6 +14,10 @@ use Rattle.service.specs.Rates.{rate_is}
 use Rattle.packet.specs.Bits.{byte_of, packet_of, carried, number_of, value}
 use Rattle.packet.proofs.Numbers.{bit_lt, number_lt, number_more, number_none}
 
+pub carried_is : (rate : Rate) (row : List ℕ) (k : ℕ) → carried rate row k ≡ value row (at (layout rate) k)
+unfolding carried
+carried_is rate row k = refl
+
 pub carried_some : (rate : Rate) (row : List ℕ) (k : ℕ) (c : CodeBit) → at (layout rate) k ≡ Some c → carried rate row k ≡ value row (Some c)
 unfolding carried
 carried_some rate row k c e = ap (value row) e

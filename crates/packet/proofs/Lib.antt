@@ -5,3 +5,8 @@ pub mod Reading
 pub mod Fields
 pub mod Messages
 pub mod Held
+pub mod Packets
+pub mod Arrays
+pub mod Returns
+pub mod Checked
+pub mod Trips

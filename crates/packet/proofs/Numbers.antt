@@ -1,5 +1,5 @@
 -- Bits of a number, and numbers made of bits.
-use Rattle.std.proofs.Common.{◌≡◌, ℕ, zero, suc, ◌+◌, ◌-◌, ◌*◌, ◌/◌, ◌%◌, ◌^◌, ◌<◌, ◌≤◌, ◌≢◌, if◌then◌else◌, nat_lt, inl, inr, refl, sym, ◌∙◌, ap, arith, pow-suc, add-one, mul_assoc, zero-mul}
+use Rattle.std.proofs.Common.{◌≡◌, ℕ, zero, suc, ◌+◌, ◌-◌, ◌*◌, ◌/◌, ◌%◌, ◌^◌, ◌<◌, ◌≤◌, ◌≢◌, if◌then◌else◌, nat_lt, inl, inr, refl, sym, ◌∙◌, ap, ap₂, arith, pow-suc, add-one, mul_assoc, zero-mul}
 use native.Mathlib.Nat.{zero-div, div-eq_of_lt, lt-div-mul-add}
 use Rattle.std.specs.Int.Bits.{bit_or, or_shr, or_mod, shifted_even}
 use Rattle.std.proofs.Math.Pow.{pow_mono}
@@ -100,3 +100,25 @@ fits n b l e = elim (cases_lt n 8) [ inl k ↦ grind (arith, pow_pos n, lt-div-m
 
 pub fits_not : (n b : ℕ) → (if nat_lt n 8 then b / 2 ^ n else 0) ≢ 0 → 2 ^ n ≤ b
 fits_not n b e = grind (arith, div-eq_of_lt)
+
+-- a number of n + m bits is the first n bits and the last m
+pub number_split : (f : ℕ → ℕ) (n m : ℕ) → number_of f (n + m) ≡ number_of f n * 2 ^ m + number_of (λ i. f (n + i)) m
+unfolding number_of
+number_split f n zero = let e : n + 0 ≡ n = omega arith in ap (number_of f) e ∙ omega arith
+number_split f n (suc m) =
+    let e : n + suc m ≡ suc (n + m) = omega arith in
+    let q : number_of f n * 2 ^ suc m ≡ number_of f n * 2 ^ m * 2 = ap (λ x. number_of f n * x) (pow-suc 2 m) ∙ sym (mul_assoc (number_of f n) (2 ^ m) 2) in
+    ap (number_of f) e ∙ omega (arith, number_split f n m, q)
+
+-- numbers of n bits with the same bits
+pub number_same : (f g : ℕ → ℕ) (n : ℕ) → ((i : ℕ) → i < n → f i ≡ g i) → number_of f n ≡ number_of g n
+unfolding number_of
+number_same f g zero same = refl
+number_same f g (suc n) same = ap₂ (λ a b. a * 2 + b) (number_same f g n (λ i h. same i (omega arith))) (same n (omega arith))
+
+-- the number of the bits of a number
+pub number_again : (n w : ℕ) → n < 2 ^ w → number_of (λ i. bit n (w - 1 - i)) w ≡ n
+number_again n w h =
+    let f = λ (i : ℕ). bit n (w - 1 - i) in
+    same_bits w (number_of f w) n (number_lt f (λ i. bit_lt n (w - 1 - i)) w) h
+    (λ b hb. bit_of_number f (λ i. bit_lt n (w - 1 - i)) w b hb ∙ ap (bit n) (omega arith))

@@ -3,3 +3,4 @@ pub mod Bits
 pub mod CheckBits
 pub mod Calls
 pub mod Unpacking
+pub mod Laws

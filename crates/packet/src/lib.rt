@@ -8,10 +8,12 @@ ghost use Rattle.packet.specs.Unpacking.{Unpacks};
 mod check_bits;
 mod codes;
 mod kinds;
+mod laws;
 mod packing;
 mod rows;
 
 pub use codes::{CodeNumbers, Codes};
+pub use laws::{each_bit_of_a_packet, packing_returns_the_packet, unpacking_returns_the_codes};
 use service::{Rate, Refusal};
 
 /// Packs plain code numbers at the rate of this number: writes the packet from the buffer's start, keeps the rest of the
@@ -30,4 +32,29 @@ pub fn unpack(rate: u8, packet: &[u8]) -> Result<Codes, Refusal>
     ensures { Unpacks rate packet.now result }
 {
     Ok(Codes::unpack(Rate::try_from(rate)?, packet)?)
+}
+
+#[cfg(test)]
+mod tests {
+    use super::*;
+    use std::test::Fail;
+
+    const RATE_1: u8 = 4;
+
+    fn packet_of(numbers: &CodeNumbers) -> Result<[u8; 22], Fail> {
+        let mut out = [0xff; 22];
+        pack(RATE_1, numbers, &mut out)?;
+        Ok(out)
+    }
+
+    // With all codes 0, PCB[1] to PCB[10] are transmitted as ones, and PCB[0] as zero.
+    #[test]
+    fn rate_1_of_zeros(rt: HostRuntime) -> Result<(), Fail> {
+        let packet = packet_of(&CodeNumbers::default())?;
+        for (i, byte) in packet.iter().enumerate() {
+            let expected = if (11..=20).contains(&i) { 0x10 } else { 0 };
+            assert_eq!(rt; *byte, expected);
+        }
+        Ok(())
+    }
 }

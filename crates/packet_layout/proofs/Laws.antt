@@ -1,9 +1,10 @@
 -- The law of each layout, and where the guarded bits stand, by computed tests.
-use Rattle.std.proofs.Common.{◌≡◌, ℕ, zero, suc, ◌<◌, slice_index, slice_get, Some, inl, inr, arith, refl, subst}
+use Rattle.std.proofs.Common.{◌≡◌, ℕ, zero, suc, ◌-◌, ◌<◌, slice_index, slice_get, Some, inl, inr, arith, refl, subst}
 use Rattle.std.proofs.lemmas.Bool.{cases_lt}
 use Rattle.service.specs.declared.rates.Rate.TheVariants.{Full, Half, Quarter, Eighth}
+use Rattle.packet_layout.specs.declared.code_bits.Code.TheVariants.{Lsp, Cbgain, Pcb}
 use Rattle.packet_layout.specs.declared.code_bits.CodeBit.{CodeBit}
-use Rattle.packet_layout.specs.CodeBits.{Has}
+use Rattle.packet_layout.specs.CodeBits.{Has, code_bit, index}
 use Rattle.packet_layout.specs.Layouts.{at, layout}
 use Rattle.packet_layout.specs.Guarded.{guarded, guarded_bits, guarded_code_bits}
 use Rattle.packet_layout.specs.Laws.{EachCodeBitOnce, EachCodeBitOnceAtEachRate, GuardedPlaces, place}
@@ -50,3 +51,28 @@ guarded_places = of_each (λ i. at (layout Full) (place Full (slice_index guarde
 pub guarded_have : (i : ℕ) (c : CodeBit) → slice_get guarded_code_bits i ≡ Some c → Has Full c
 unfolding guarded_code_bits
 guarded_have i c e = all_have Full guarded_code_bits refl i c e
+
+-- the guarded code bits come first among the guarded bits, and then PCB[10] down to PCB[0]
+pub guarded_front : (i : ℕ) → i < 18 → slice_get guarded i ≡ slice_get guarded_code_bits i
+unfolding guarded guarded_code_bits
+guarded_front = of_each (λ i. slice_get guarded i ≡ slice_get guarded_code_bits i) 18
+    (refl, (refl, (refl, (refl, (refl, (refl, (refl, (refl, (refl, (refl, (refl, (refl, (refl, (refl, (refl, (refl, (refl, (refl, tt))))))))))))))))))
+
+pub guarded_pcb : (j : ℕ) → j < 11 → slice_get guarded (28 - j) ≡ Some (code_bit Pcb 1 j)
+unfolding guarded
+guarded_pcb = of_each (λ j. slice_get guarded (28 - j) ≡ Some (code_bit Pcb 1 j)) 11
+    (refl, (refl, (refl, (refl, (refl, (refl, (refl, (refl, (refl, (refl, (refl, tt)))))))))))
+
+-- each of the 18 is there, and none is PCB's
+abbrev IsCode : ℕ → Type 0
+IsCode i = (b : CodeBit) × (slice_get guarded_code_bits i ≡ Some b) × (index b < 35)
+
+pub guarded_some : (i : ℕ) → i < 18 → IsCode i
+unfolding guarded_code_bits
+guarded_some = of_each IsCode 18
+    ((code_bit Cbgain 8 1, refl, omega arith), ((code_bit Cbgain 7 1, refl, omega arith), ((code_bit Cbgain 6 1, refl, omega arith), ((code_bit
+    Cbgain 5 1, refl, omega arith), ((code_bit Cbgain 4 1, refl, omega arith), ((code_bit Cbgain 3 1, refl, omega arith), ((code_bit Cbgain 2 1,
+    refl, omega arith), ((code_bit Cbgain 1 1, refl, omega arith), ((code_bit Lsp 10 3, refl, omega arith), ((code_bit Lsp 9 3, refl, omega
+    arith), ((code_bit Lsp 8 3, refl, omega arith), ((code_bit Lsp 7 3, refl, omega arith), ((code_bit Lsp 6 3, refl, omega arith), ((code_bit
+    Lsp 5 3, refl, omega arith), ((code_bit Lsp 4 3, refl, omega arith), ((code_bit Lsp 3 3, refl, omega arith), ((code_bit Lsp 2 3, refl, omega
+    arith), ((code_bit Lsp 1 3, refl, omega arith), tt))))))))))))))))))

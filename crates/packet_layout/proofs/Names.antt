@@ -129,3 +129,16 @@ narrower rate Pcb n f l = absurd (omega arith)
 
 pub bit_lt_code : (rate : Rate) (c : CodeBit) → Has rate c → index c < 35 → c.2 < 7
 bit_lt_code rate c h l = omega (arith, h.bit, narrower rate c.0 c.1 h.from l)
+
+-- the last of the 36 is PCB
+last : (name : Code) (n b : ℕ) → 1 ≤ n → n ≤ most name → 35 ≤ first name + n - 1 → code_bit name n b ≡ code_bit Pcb 1 b
+last Lsp n b f l h = absurd (omega arith)
+last Plag n b f l h = absurd (omega arith)
+last Pgain n b f l h = absurd (omega arith)
+last Cbindex n b f l h = absurd (omega arith)
+last Cbgain n b f l h = absurd (omega arith)
+last Cbseed n b f l h = absurd (omega arith)
+last Pcb n b f l h = let e : n ≡ 1 = omega arith in ap (λ m. code_bit Pcb m b) e
+
+pub last_is_pcb : (rate : Rate) (c : CodeBit) → Has rate c → 35 ≤ index c → c ≡ code_bit Pcb 1 c.2
+last_is_pcb rate c h l = last c.0 c.1 c.2 h.from (omega (arith, h.to, count_most rate c.0)) l

@@ -162,3 +162,8 @@ pub none_le : (places : List CodeBit) (k : ℕ) → at places k ≡ None → len
 none_le [] k e = omega arith
 none_le (d ∷ cs) zero e = absurd (none_some d (sym e))
 none_le (d ∷ cs) (suc k) e = omega (arith, none_le cs k e)
+
+pub at_past : (places : List CodeBit) (k : ℕ) → length places ≤ k → at places k ≡ None
+at_past [] k h = refl
+at_past (d ∷ cs) zero h = absurd (omega arith)
+at_past (d ∷ cs) (suc k) h = at_past cs k (omega arith)
