@@ -1,0 +1,2 @@
+mod Pitches
+mod Codebooks

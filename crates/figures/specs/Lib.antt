@@ -1,0 +1,4 @@
+pub mod Subframes
+pub mod Pitch
+pub mod Codebook
+pub mod Laws
