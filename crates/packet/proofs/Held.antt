@@ -12,7 +12,8 @@ use Rattle.packet_layout.specs.Layouts.{at, layout}
 use Rattle.packet_layout.proofs.Laws.{at_each_rate}
 use Rattle.packet_layout.proofs.Names.{back, below, bit_lt_code, code_at, index_lt_pcb, most, named}
 use Rattle.packet_layout.proofs.Once.{place_lt}
-use Rattle.packet.specs.Bits.{bit, bit_at, value, CarriedBefore, HoldsBits, ReadsTo}
+use Rattle.packet.specs.Bits.{bit, bit_at, value}
+use Rattle.packet.specs.Reading.{CarriedBefore, HoldsBits, ReadsTo}
 use Rattle.packet.specs.Calls.{Holds}
 use Rattle.packet.specs.Codes.{Fits, Within, in_order, numbers_of}
 use Rattle.packet.proofs.Fields.{row_again}

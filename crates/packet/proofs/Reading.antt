@@ -10,7 +10,8 @@ use Rattle.packet_layout.specs.Layouts.{at, layout}
 use Rattle.packet_layout.specs.Laws.{EachCodeBitOnce}
 use Rattle.packet_layout.proofs.Names.{same, index_lt}
 use Rattle.packet_layout.proofs.Once.{same_some, none_some}
-use Rattle.packet.specs.Bits.{bit, bit_at, value, CarriedBefore, HoldsBits, ReadsTo}
+use Rattle.packet.specs.Bits.{bit, bit_at, value}
+use Rattle.packet.specs.Reading.{CarriedBefore, HoldsBits, ReadsTo}
 use Rattle.packet.proofs.Numbers.{bit_lt, bit_of_or, bit_of_zero, shifted_here, shifted_elsewhere}
 
 -- the row with a bit set at a code bit

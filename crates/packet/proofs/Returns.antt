@@ -1,5 +1,5 @@
--- Unpacking a packed record returns the record.
-use Rattle.std.proofs.Common.{◌≡◌, ◌≢◌, ℕ, ◌+◌, ◌*◌, ◌<◌, ◌≤◌, nat_lt, [], ◌∷◌, Some, slice_index, inl, inr, sym, ◌∙◌, ap, arith}
+-- What the packet of some codes holds, and that a packet holds one record at most.
+use Rattle.std.proofs.Common.{◌≡◌, ◌≢◌, ℕ, ◌+◌, ◌*◌, ◌<◌, ◌≤◌, List, nat_lt, [], ◌∷◌, Some, slice_index, inl, inr, sym, ◌∙◌, ap, arith}
 use Rattle.std.proofs.lemmas.Bool.{cases_lt, cond-true, cond-false, lt-ltb, le-ltb}
 use Rattle.std.proofs.lemmas.List.{ext_get_or, get_or_append_left}
 use Rattle.service.specs.declared.rates.Rate.{Rate}
@@ -17,8 +17,8 @@ use Rattle.packet.specs.declared.codes.CodeNumbers.{CodeNumbers}
 use Rattle.packet.specs.Bits.{bit, bit_at, value}
 use Rattle.packet.specs.Calls.{Holds, packet}
 use Rattle.packet.specs.CheckBits.{pcb_of}
-use Rattle.packet.specs.Codes.{Within, in_order, row_of}
-use Rattle.packet.specs.Laws.{Sized}
+use Rattle.packet.specs.Codes.{in_order, row_of}
+use Rattle.packet.specs.Laws.{OneRecord, Sized}
 use Rattle.packet.proofs.Arrays.{all_fit, at_name, codes_length, codes_of, in_order_length, same_codes}
 use Rattle.packet.proofs.Carried.{carried_some}
 use Rattle.packet.proofs.Numbers.{same_bits}
@@ -54,14 +54,14 @@ packet_holds rate c size k b e other =
     let row = row_of c (pcb_of rate c) in
     sym (packet_bit rate row k (omega (arith, place_lt (layout rate) k b e, law.bits, room rate)) ∙ carried_some rate row k b e ∙ value_of_codes rate c (pcb_of rate c) size b (law.carried k b e) other)
 
-module _ (rate : Rate) (c d : CodeNumbers) (c-size : Sized c) (d-size : Sized d) (within : Within rate c) (holds : Holds rate (packet rate c) d) where
+module _ (rate : Rate) (bytes : List ℕ) (c d : CodeNumbers) (c-size : Sized c) (d-size : Sized d) (c-holds : Holds rate bytes c) (d-holds : Holds rate bytes d) where
   same_bit : (name : Code) (i b : ℕ) → name ≢ Pcb → i < most name → b < bits_at rate name i → bit (slice_index (codes_of name d) i) b ≡ bit (slice_index (codes_of name c) i) b
   same_bit name i b other h hb =
       let cb = code_bit name (i + 1) b in
       let has : Has rate cb = has_bit rate name i b hb in
       let (k, e, one) = (at_each_rate rate).once cb has in
       let at_i : index cb ≡ first name + i = omega arith in
-      let both : value (in_order d) (Some cb) ≡ value (in_order c) (Some cb) = holds.bits k cb e other ∙ sym (packet_holds rate c c-size k cb e other) in
+      let both : value (in_order d) (Some cb) ≡ value (in_order c) (Some cb) = d-holds.bits k cb e other ∙ sym (c-holds.bits k cb e other) in
       ap (λ n. bit n b) (sym (ap (slice_index (in_order d)) at_i ∙ at_name d d-size name i other h))
       ∙ both
       ∙ ap (λ n. bit n b) (ap (slice_index (in_order c)) at_i ∙ at_name c c-size name i other h)
@@ -73,8 +73,11 @@ module _ (rate : Rate) (c d : CodeNumbers) (c-size : Sized c) (d-size : Sized d)
       ext_get_or 0 (codes_of name d) (codes_of name c) (long-d ∙ sym long-c)
       (λ i h.
       same_bits (bits_at rate name i) (slice_index (codes_of name d) i) (slice_index (codes_of name c) i)
-      (all_fit rate d holds.within name other i h) (all_fit rate c within name other i (omega arith))
+      (all_fit rate d d-holds.within name other i h) (all_fit rate c c-holds.within name other i (omega arith))
       (λ b hb. same_bit name i b other (omega arith) hb))
 
   pub same : d ≡ c
   same = same_codes d c same_name
+
+pub one_record : OneRecord
+one_record rate bytes c d c-size d-size c-holds d-holds = same rate bytes d c d-size c-size d-holds c-holds

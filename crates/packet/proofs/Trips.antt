@@ -123,5 +123,5 @@ unpacking_returns rate c size within =
       lawful = record { length = packet_length rate (row_of c (pcb_of rate c)); spare = packed_spare rate c };
       right = right_packet rate c size holds;
       holds = holds;
-      only = λ d d-size d-holds. same rate c d size d-size within d-holds;
+      only = λ d d-size d-holds. same rate (packet rate c) c d size d-size holds d-holds;
     }

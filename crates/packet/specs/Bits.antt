@@ -1,5 +1,5 @@
 -- The bits of a packet. Assumes nothing.
-use Rattle.std.specs.Prelude.{◌≡◌, ℕ, zero, suc, ◌+◌, ◌-◌, ◌*◌, ◌/◌, ◌%◌, ◌^◌, ◌<◌, List, length, Some, None, Option, map, slice_index}
+use Rattle.std.specs.Prelude.{ℕ, zero, suc, ◌+◌, ◌-◌, ◌*◌, ◌/◌, ◌%◌, ◌^◌, List, Some, None, Option, map, slice_index}
 use Rattle.std.specs.List.{range_with_len}
 use Rattle.service.specs.declared.rates.Rate.{Rate}
 use Rattle.service.specs.Rates.{rate_is}
@@ -15,7 +15,7 @@ bit n b = n / 2 ^ b % 2
 abbrev pub bit_at : List ℕ → ℕ → ℕ
 bit_at bytes k = bit (slice_index bytes (k / 8)) (7 - k % 8)
 
--- a code bit of the 36 codes of a frame; 0 for none
+-- a code bit of the codes of a frame in order; 0 for none
 abbrev pub value : List ℕ → Option CodeBit → ℕ
 value row None = 0
 value row (Some c) = bit (slice_index row (index c)) c.2
@@ -29,23 +29,9 @@ unfoldable pub number_of : (ℕ → ℕ) → ℕ → ℕ
 number_of f zero = 0
 number_of f (suc n) = number_of f n * 2 + f n
 
--- a byte of the packet, and the packet
+-- a byte of the packet of the 36 codes in order, and the packet
 unfoldable pub byte_of : Rate → List ℕ → ℕ → ℕ
 byte_of rate row j = number_of (λ t. carried rate row (8 * j + t)) 8
 
 unfoldable pub packet_of : Rate → List ℕ → List ℕ
 packet_of rate row = map (byte_of rate row) (range_with_len 0 (rate_is rate).bytes)
-
--- a place of the packet before n carries bit b of the code at index s
-abbrev pub CarriedBefore : Rate → ℕ → ℕ → ℕ → Type 0
-CarriedBefore rate n s b = (k : ℕ) × ((c : CodeBit) × ((k < n) × ((at (layout rate) k ≡ Some c) × ((index c ≡ s) × (c.2 ≡ b)))))
-
--- the 36 codes that the first n places of a packet hold: each code bit that they carry is the packet's, and all other bits of
--- the codes are zero
-pub record HoldsBits (rate : Rate) (n : ℕ) (packet row : List ℕ) : Type 0 where
-  pub size : length row ≡ 36
-  pub bits : (k : ℕ) (c : CodeBit) → k < n → at (layout rate) k ≡ Some c → value row (Some c) ≡ bit_at packet k
-  pub others : (s b : ℕ) → s < 36 → (CarriedBefore rate n s b → ⊥) → bit (slice_index row s) b ≡ 0
-
-unfoldable pub ReadsTo : Rate → ℕ → List ℕ → List ℕ → Type 0
-ReadsTo rate n packet row = HoldsBits rate n packet row

@@ -35,6 +35,10 @@ pub record HoldsThese (rate : Rate) (c : CodeNumbers) : Type 0 where
 abbrev pub UnpackingReturnsTheCodes : Type 0
 UnpackingReturnsTheCodes = (rate : Rate) (c : CodeNumbers) → Sized c → Within rate c → HoldsThese rate c
 
+-- a packet holds one record at most, so that unpacking has one answer
+abbrev pub OneRecord : Type 0
+OneRecord = (rate : Rate) (bytes : List ℕ) (c d : CodeNumbers) → Sized c → Sized d → Holds rate bytes c → Holds rate bytes d → c ≡ d
+
 -- packing an unpacked packet returns the packet, if its check bits are right
 abbrev pub PackingReturnsThePacket : Type 0
 PackingReturnsThePacket =

@@ -1,5 +1,6 @@
 pub mod Codes
 pub mod Bits
+pub mod Reading
 pub mod CheckBits
 pub mod Calls
 pub mod Unpacking

@@ -3,7 +3,8 @@ ghost use Rattle.std.specs.Prelude.{◌≡◌, ◌^◌, ◌++◌, ◌<◌, ◌�
 ghost use Rattle.service.specs.Rates.{rate_is};
 ghost use Rattle.service.specs.Refusals.{refusal_is, refused};
 ghost use Rattle.packet_layout.specs.CodeBits.{bits_at};
-ghost use Rattle.packet.specs.Bits.{ReadsTo, packet_of};
+ghost use Rattle.packet.specs.Bits.{packet_of};
+ghost use Rattle.packet.specs.Reading.{ReadsTo};
 ghost use Rattle.packet.specs.Calls.{Holds, PacksCodes};
 ghost use Rattle.packet.specs.Codes.{Fits, Within};
 

@@ -13,7 +13,9 @@ mod packing;
 mod rows;
 
 pub use codes::{CodeNumbers, Codes};
-pub use laws::{each_bit_of_a_packet, packing_returns_the_packet, unpacking_returns_the_codes};
+pub use laws::{
+    each_bit_of_a_packet, one_record, packing_returns_the_packet, unpacking_returns_the_codes,
+};
 use service::{Rate, Refusal};
 
 /// Packs plain code numbers at the rate of this number: writes the packet from the buffer's start, keeps the rest of the

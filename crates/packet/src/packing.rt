@@ -2,7 +2,8 @@
 ghost use Rattle.std.specs.Prelude.{◌≡◌, ℕ, ◌+◌, ◌*◌, ◌^◌, ◌++◌, ◌≤◌, ◌<◌, bit_or, drop, length, slice_index, slice_set};
 ghost use Rattle.service.specs.Rates.{rate_is};
 ghost use Rattle.packet_layout.specs.CodeBits.{index};
-ghost use Rattle.packet.specs.Bits.{ReadsTo, bit_at, byte_of, carried, packet_of, value};
+ghost use Rattle.packet.specs.Bits.{bit_at, byte_of, carried, packet_of, value};
+ghost use Rattle.packet.specs.Reading.{ReadsTo};
 
 use crate::check_bits::bit;
 use crate::kinds::PacketKind;

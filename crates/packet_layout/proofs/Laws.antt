@@ -69,10 +69,79 @@ IsCode i = (b : CodeBit) × (slice_get guarded_code_bits i ≡ Some b) × (index
 
 pub guarded_some : (i : ℕ) → i < 18 → IsCode i
 unfolding guarded_code_bits
-guarded_some = of_each IsCode 18
-    ((code_bit Cbgain 8 1, refl, omega arith), ((code_bit Cbgain 7 1, refl, omega arith), ((code_bit Cbgain 6 1, refl, omega arith), ((code_bit
-    Cbgain 5 1, refl, omega arith), ((code_bit Cbgain 4 1, refl, omega arith), ((code_bit Cbgain 3 1, refl, omega arith), ((code_bit Cbgain 2 1,
-    refl, omega arith), ((code_bit Cbgain 1 1, refl, omega arith), ((code_bit Lsp 10 3, refl, omega arith), ((code_bit Lsp 9 3, refl, omega
-    arith), ((code_bit Lsp 8 3, refl, omega arith), ((code_bit Lsp 7 3, refl, omega arith), ((code_bit Lsp 6 3, refl, omega arith), ((code_bit
-    Lsp 5 3, refl, omega arith), ((code_bit Lsp 4 3, refl, omega arith), ((code_bit Lsp 3 3, refl, omega arith), ((code_bit Lsp 2 3, refl, omega
-    arith), ((code_bit Lsp 1 3, refl, omega arith), tt))))))))))))))))))
+guarded_some = of_each IsCode 18 (
+  (code_bit Cbgain 8 1, refl, omega arith),
+  (
+    (code_bit Cbgain 7 1, refl, omega arith),
+    (
+      (code_bit Cbgain 6 1, refl, omega arith),
+      (
+        (
+          code_bit
+              Cbgain 5 1,
+          refl,
+          omega arith,
+        ),
+        (
+          (code_bit Cbgain 4 1, refl, omega arith),
+          (
+            (code_bit Cbgain 3 1, refl, omega arith),
+            (
+              (
+                code_bit Cbgain 2 1,
+                refl,
+                omega arith,
+              ),
+              (
+                (code_bit Cbgain 1 1, refl, omega arith),
+                (
+                  (code_bit Lsp 10 3, refl, omega arith),
+                  (
+                    (
+                      code_bit Lsp 9 3,
+                      refl,
+                      omega
+                          arith,
+                    ),
+                    (
+                      (code_bit Lsp 8 3, refl, omega arith),
+                      (
+                        (code_bit Lsp 7 3, refl, omega arith),
+                        (
+                          (code_bit Lsp 6 3, refl, omega arith),
+                          (
+                            (
+                              code_bit
+                                  Lsp 5 3,
+                              refl,
+                              omega arith,
+                            ),
+                            (
+                              (code_bit Lsp 4 3, refl, omega arith),
+                              (
+                                (code_bit Lsp 3 3, refl, omega arith),
+                                (
+                                  (
+                                    code_bit Lsp 2 3,
+                                    refl,
+                                    omega
+                                        arith,
+                                  ),
+                                  ((code_bit Lsp 1 3, refl, omega arith), tt),
+                                ),
+                              ),
+                            ),
+                          ),
+                        ),
+                      ),
+                    ),
+                  ),
+                ),
+              ),
+            ),
+          ),
+        ),
+      ),
+    ),
+  ),
+)

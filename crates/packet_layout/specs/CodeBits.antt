@@ -1,11 +1,18 @@
 -- The codes of a frame and their bits, named as IS-96 names them: LSP1[3] is bit 3 of LSP code 1. Assumes nothing.
-use Rattle.std.specs.Prelude.{ℕ, ◌+◌, ◌-◌, ◌<◌, ◌≤◌, cond, nat_lt}
+use Rattle.std.specs.Prelude.{ℕ, ◌+◌, ◌-◌, ◌<◌, ◌≤◌, cond, nat_lt, List, [], ◌∷◌}
 use Rattle.service.specs.declared.rates.Rate.{Rate}
 use Rattle.service.specs.declared.rates.Rate.TheVariants.{Full, Half, Quarter, Eighth}
 use Rattle.service.specs.Rates.{rate_is}
 use Rattle.packet_layout.specs.declared.code_bits.Code.{Code}
 use Rattle.packet_layout.specs.declared.code_bits.Code.TheVariants.{Lsp, Plag, Pgain, Cbindex, Cbgain, Cbseed, Pcb}
 use Rattle.packet_layout.specs.declared.code_bits.CodeBit.{CodeBit}
+
+-- the numbers of the LSP codes, and of the codebook subframes of Rate 1
+abbrev pub one_to_ten : List ℕ
+one_to_ten = 1 ∷ 2 ∷ 3 ∷ 4 ∷ 5 ∷ 6 ∷ 7 ∷ 8 ∷ 9 ∷ 10 ∷ []
+
+abbrev pub one_to_eight : List ℕ
+one_to_eight = 1 ∷ 2 ∷ 3 ∷ 4 ∷ 5 ∷ 6 ∷ 7 ∷ 8 ∷ []
 
 -- bit b of code n of this name, as LSP1[3] for Lsp 1 3; CBSEED and PCB have the number 1
 abbrev pub code_bit : Code → ℕ → ℕ → CodeBit
@@ -17,9 +24,9 @@ count rate Lsp = 10
 count rate Plag = (rate_is rate).pitch_subframes
 count rate Pgain = (rate_is rate).pitch_subframes
 count Eighth Cbindex = 0
-count Quarter Cbindex = 2
-count Half Cbindex = 4
-count Full Cbindex = 8
+count Quarter Cbindex = (rate_is Quarter).codebook_subframes
+count Half Cbindex = (rate_is Half).codebook_subframes
+count Full Cbindex = (rate_is Full).codebook_subframes
 count rate Cbgain = (rate_is rate).codebook_subframes
 count Eighth Cbseed = 1
 count Quarter Cbseed = 0

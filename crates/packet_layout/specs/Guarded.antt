@@ -3,14 +3,9 @@
 use Rattle.std.specs.Prelude.{ℕ, ◌-◌, ◌*◌, List, [], ◌∷◌, ◌++◌, map}
 use Rattle.packet_layout.specs.declared.code_bits.Code.TheVariants.{Lsp, Cbgain, Pcb}
 use Rattle.packet_layout.specs.declared.code_bits.CodeBit.{CodeBit}
-use Rattle.packet_layout.specs.CodeBits.{code_bit}
+use Rattle.packet_layout.specs.CodeBits.{code_bit, one_to_eight, one_to_ten}
 
-abbrev pub one_to_eight : List ℕ
-one_to_eight = 1 ∷ 2 ∷ 3 ∷ 4 ∷ 5 ∷ 6 ∷ 7 ∷ 8 ∷ []
-
-abbrev pub one_to_ten : List ℕ
-one_to_ten = 1 ∷ 2 ∷ 3 ∷ 4 ∷ 5 ∷ 6 ∷ 7 ∷ 8 ∷ 9 ∷ 10 ∷ []
-
+-- the numbers of the check bits from PCB[10] to PCB[1]
 abbrev pub ten_to_one : List ℕ
 ten_to_one = 10 ∷ 9 ∷ 8 ∷ 7 ∷ 6 ∷ 5 ∷ 4 ∷ 3 ∷ 2 ∷ 1 ∷ []
 

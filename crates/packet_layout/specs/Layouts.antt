@@ -1,12 +1,12 @@
 -- Which code bit each bit of a packet carries (IS-96, A.1.4.7.1.2 to A.1.4.7.4). Assumes nothing.
-use Rattle.std.specs.Prelude.{ℕ, zero, suc, List, [], ◌∷◌, ◌++◌, take, drop, Option, slice_get}
+use Rattle.std.specs.Prelude.{ℕ, zero, suc, List, [], ◌∷◌, ◌++◌, map, take, drop, Option, slice_get}
 use Rattle.std.specs.List.{flat_map}
 use Rattle.service.specs.declared.rates.Rate.{Rate}
 use Rattle.service.specs.declared.rates.Rate.TheVariants.{Full, Half, Quarter, Eighth}
 use Rattle.packet_layout.specs.declared.code_bits.Code.{Code}
 use Rattle.packet_layout.specs.declared.code_bits.Code.TheVariants.{Lsp, Plag, Pgain, Cbindex, Cbgain, Cbseed, Pcb}
 use Rattle.packet_layout.specs.declared.code_bits.CodeBit.{CodeBit}
-use Rattle.packet_layout.specs.CodeBits.{code_bit}
+use Rattle.packet_layout.specs.CodeBits.{code_bit, one_to_eight, one_to_ten}
 
 -- the lowest w bits of a code, the highest first
 unfoldable pub bits_of : Code → ℕ → ℕ → List CodeBit
@@ -16,7 +16,7 @@ bits_of name n (suc w) = code_bit name n w ∷ bits_of name n w
 -- the ten LSP codes of w bits
 unfoldable pub lsps : ℕ → List CodeBit
 unfolding bits_of
-lsps w = flat_map (λ i. bits_of Lsp i w) (1 ∷ 2 ∷ 3 ∷ 4 ∷ 5 ∷ 6 ∷ 7 ∷ 8 ∷ 9 ∷ 10 ∷ [])
+lsps w = flat_map (λ i. bits_of Lsp i w) one_to_ten
 
 -- the codes of a pitch subframe, and of a codebook subframe
 unfoldable pub pitch : ℕ → List CodeBit
@@ -27,15 +27,14 @@ unfoldable pub codebook : ℕ → List CodeBit
 unfolding bits_of
 codebook n = bits_of Cbindex n 7 ++ bits_of Cbgain n 3
 
--- At Rate 1 the 20 highest bits are the upper halves of the LSP codes.
+-- At Rate 1 the upper halves of the ten LSP codes come first, and each bit 3 behind its bit 2; then the lower halves.
 unfoldable pub upper_halves : List CodeBit
-upper_halves = flat_map (λ i. code_bit Lsp i 2 ∷ code_bit Lsp i 3 ∷ []) (1 ∷ 2 ∷ 3 ∷ 4 ∷ 5 ∷ 6 ∷ 7 ∷ 8 ∷ 9 ∷ 10 ∷ [])
+upper_halves = flat_map (λ i. code_bit Lsp i 2 ∷ code_bit Lsp i 3 ∷ []) one_to_ten
 
--- the lower halves
 unfoldable pub lower_halves : List CodeBit
-lower_halves = flat_map (λ i. code_bit Lsp i 1 ∷ code_bit Lsp i 0 ∷ []) (1 ∷ 2 ∷ 3 ∷ 4 ∷ 5 ∷ 6 ∷ 7 ∷ 8 ∷ 9 ∷ 10 ∷ [])
+lower_halves = flat_map (λ i. code_bit Lsp i 1 ∷ code_bit Lsp i 0 ∷ []) one_to_ten
 
--- a codebook subframe at Rate 1, where CBGAIN[1] stands elsewhere
+-- a codebook subframe at Rate 1 without CBGAIN[1], which is guarded and stands elsewhere; and two of them, from number n
 unfoldable pub codebook_without_1 : ℕ → List CodeBit
 unfolding bits_of
 codebook_without_1 n = bits_of Cbindex n 7 ++ (code_bit Cbgain n 2 ∷ code_bit Cbgain n 0 ∷ [])
@@ -44,26 +43,27 @@ unfoldable pub two_codebooks : ℕ → List CodeBit
 unfolding codebook_without_1
 two_codebooks n = codebook_without_1 n ++ codebook_without_1 (suc n)
 
--- each of some code bits behind the next seven others, while there are so many
+-- what is not guarded below the upper halves: the lower halves, then each pitch subframe with its two codebook subframes
+unfoldable pub not_guarded : List CodeBit
+unfolding lower_halves pitch two_codebooks
+not_guarded =
+    lower_halves ++ (pitch 1 ++ (two_codebooks 1 ++ (pitch 2 ++ (two_codebooks 3 ++ (pitch 3 ++ (two_codebooks 5
+    ++ (pitch 4 ++ two_codebooks 7)))))))
+
+-- what is guarded there: CBGAIN[1] of each codebook subframe, and PCB[10] down to PCB[0]
+unfoldable pub spread_out : List CodeBit
+unfolding bits_of
+spread_out = map (λ k. code_bit Cbgain k 1) one_to_eight ++ bits_of Pcb 1 11
+
+-- the code bits of one list, each behind the next seven of another, or behind those that are left of it
 unfoldable pub behind_seven : List CodeBit → List CodeBit → List CodeBit
 behind_seven [] others = others
 behind_seven (c ∷ cs) others = take 7 others ++ (c ∷ behind_seven cs (drop 7 others))
 
-unfoldable pub spread : List CodeBit
-unfolding bits_of
-spread =
-    code_bit Cbgain 1 1 ∷ code_bit Cbgain 2 1 ∷ code_bit Cbgain 3 1 ∷ code_bit Cbgain 4 1 ∷ code_bit Cbgain 5 1 ∷ code_bit Cbgain 6 1
-    ∷ code_bit Cbgain 7 1 ∷ code_bit Cbgain 8 1 ∷ bits_of Pcb 1 11
-
-unfoldable pub others : List CodeBit
-unfolding lower_halves pitch two_codebooks
-others =
-    lower_halves ++ (pitch 1 ++ (two_codebooks 1 ++ (pitch 2 ++ (two_codebooks 3 ++ (pitch 3 ++ (two_codebooks 5
-    ++ (pitch 4 ++ two_codebooks 7)))))))
-
+-- the code bit of each place, the highest-numbered packet bit first
 unfoldable pub layout : Rate → List CodeBit
-unfolding lsps pitch codebook upper_halves behind_seven spread others
-layout Full = upper_halves ++ behind_seven spread others
+unfolding lsps pitch codebook upper_halves behind_seven spread_out not_guarded
+layout Full = upper_halves ++ behind_seven spread_out not_guarded
 layout Half = lsps 2 ++ (pitch 1 ++ (codebook 1 ++ (codebook 2 ++ (pitch 2 ++ (codebook 3 ++ codebook 4)))))
 layout Quarter = lsps 1 ++ (pitch 1 ++ (codebook 1 ++ codebook 2))
 layout Eighth =
@@ -72,6 +72,6 @@ layout Eighth =
     ∷ code_bit Cbseed 1 1 ∷ code_bit Lsp 7 0 ∷ code_bit Lsp 8 0 ∷ code_bit Lsp 9 0
     ∷ code_bit Cbseed 1 0 ∷ code_bit Lsp 10 0 ∷ code_bit Cbgain 1 1 ∷ code_bit Cbgain 1 0 ∷ []
 
--- what stands at an index
+-- the code bit at a place; a place past the last carries none
 abbrev pub at : List CodeBit → ℕ → Option CodeBit
-at l k = slice_get l k
+at places k = slice_get places k

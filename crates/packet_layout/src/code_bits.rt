@@ -64,8 +64,8 @@ impl Code {
 pub struct CodeBit(pub Code, pub u8, pub u8);
 
 impl CodeBit {
-    /// Where the code stands among the 36 of a frame, counted from 0. A code number 0, which no code has, counts as 1 would at
-    /// the first code, and else as the code before.
+    /// Where the code stands among the 36 of a frame, counted from 0. For the number 0, which no code has, it is the index before
+    /// that of number 1, and 0 if there is none.
     pub fn index(self) -> usize
         ensures { result ≡ index self }
     {

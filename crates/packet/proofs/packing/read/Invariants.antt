@@ -1,4 +1,4 @@
-use Rattle.packet.specs.Bits.{ReadsTo}
+use Rattle.packet.specs.Reading.{ReadsTo}
 use Rattle.packet.proofs.packing.read.Given as goal
 
 -- the places so far are read
