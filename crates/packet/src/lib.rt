@@ -39,9 +39,12 @@ pub fn unpack(rate: u8, packet: &[u8]) -> Result<Codes, Refusal>
 #[cfg(test)]
 mod tests {
     use super::*;
+    use service::Fault;
     use std::test::Fail;
 
     const RATE_1: u8 = 4;
+
+    const RATE_1_8: u8 = 1;
 
     fn packet_of(numbers: &CodeNumbers) -> Result<[u8; 22], Fail> {
         let mut out = [0xff; 22];
@@ -58,5 +61,59 @@ mod tests {
             assert_eq!(rt; *byte, expected);
         }
         Ok(())
+    }
+
+    // With only CBGAIN8[1] set, PCB[10], [9], [7], [6], [4], [1] and [0] are 1 before inversion. PCB[j] stands in byte 21 - j,
+    // at the bit of value 16, for j above 0, and PCB[0] at the bit of value 32 of byte 21.
+    #[test]
+    fn check_bits_of_one_code_bit(rt: HostRuntime) -> Result<(), Fail> {
+        let mut numbers = CodeNumbers::default();
+        numbers.cbgain[7] = 0b010;
+        let packet = packet_of(&numbers)?;
+        for j in 1..=10usize {
+            let set = [10, 9, 7, 6, 4, 1].contains(&j);
+            assert_eq!(rt; packet[21 - j] & 0x10 == 0, set);
+        }
+        assert_eq!(rt; packet[21], 0x20);
+        Ok(())
+    }
+
+    #[test]
+    fn rate_1_8_of_ones(rt: HostRuntime) -> Result<(), Fail> {
+        let codes = unpack(RATE_1_8, &[0xff, 0xff])?;
+        let mut numbers = CodeNumbers::default();
+        numbers.lsp = [1; 10];
+        numbers.cbgain[0] = 3;
+        numbers.cbseed = 15;
+        assert_eq!(rt; codes.numbers(), numbers);
+        let mut out = [0; 3];
+        assert_eq!(rt; codes.pack(&mut out), Ok(2));
+        assert_eq!(rt; out, [0xff, 0xff, 0]);
+        Ok(())
+    }
+
+    #[test]
+    fn refusals_of_pack(rt: HostRuntime) {
+        let mut numbers = CodeNumbers::default();
+        let mut out = [7; 21];
+        assert_eq!(rt; pack(RATE_1, &numbers, &mut out), Err(Refusal::ShortBuffer));
+        assert_eq!(rt; pack(5, &numbers, &mut out), Err(Refusal::Codes));
+        numbers.cbseed = 1;
+        assert_eq!(rt; pack(RATE_1, &numbers, &mut out), Err(Refusal::Codes));
+        assert_eq!(rt; out, [7; 21]);
+    }
+
+    #[test]
+    fn refusals_of_unpack(rt: HostRuntime) {
+        let packet = [1; 22];
+        assert_eq!(rt; unpack(0, &packet).err(), Some(Refusal::Codes));
+        assert_eq!(rt;
+            unpack(RATE_1_8, &packet).err(),
+            Some(Refusal::from(Fault::Length(0)))
+        );
+        assert_eq!(rt;
+            unpack(RATE_1, &packet).err(),
+            Some(Refusal::from(Fault::SpareBits(0)))
+        );
     }
 }
