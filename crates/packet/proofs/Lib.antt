@@ -1,4 +1,3 @@
-pub mod Tables
 pub mod Carried
 pub mod Numbers
 pub mod Reading

@@ -1,5 +1,5 @@
 -- The guarded code bits of a row of codes.
-use Rattle.std.proofs.Common.{◌≡◌, ℕ, zero, suc, ◌+◌, ◌*◌, ◌^◌, ◌<◌, ◌≤◌, Bool, true, nat_lt, ◌&&◌, List, [], ◌∷◌, ◌++◌, length, Option, Some, None, slice_get, refl, sym, ◌∙◌, ap, ap₂, subst, arith}
+use Rattle.std.proofs.Common.{◌≡◌, ℕ, zero, suc, ◌+◌, ◌*◌, ◌^◌, ◌<◌, ◌≤◌, Bool, true, nat_lt, ◌&&◌, List, [], ◌∷◌, ◌++◌, length, Option, Some, None, slice_get, refl, ◌∙◌, ap, ap₂, subst, arith}
 use Rattle.std.proofs.lemmas.Bool.{and_parts}
 use Rattle.std.proofs.lemmas.Bool.Decides.{nat_tests}
 use Rattle.std.proofs.lemmas.List.{get_or_append_left, length-append}
@@ -10,7 +10,6 @@ use Rattle.std.proofs.Math.Pow.{pow_mono}
 use Rattle.packet_layout.specs.declared.code_bits.CodeBit.{CodeBit}
 use Rattle.packet_layout.specs.CodeBits.{index}
 use Rattle.packet_layout.specs.Guarded.{guarded_code_bits}
-use Rattle.packet.specs.declared.check_bits.TheConstants.{GUARDED}
 use Rattle.service.specs.declared.rates.Rate.TheVariants.{Full}
 use Rattle.packet_layout.proofs.Laws.{guarded_have}
 use Rattle.packet_layout.proofs.Names.{index_lt, bit_lt}
@@ -42,19 +41,12 @@ module _ (row : List ℕ) where
   unfolding message_of first_guarded
   message_is = refl
 
--- the table of the code
-same_table : GUARDED ≡ guarded_code_bits
-unfolding guarded_code_bits
-same_table = refl
+-- what packing needs to know of them
+pub guarded_index : (i : ℕ) (c : CodeBit) → slice_get guarded_code_bits i ≡ Some c → index c < 36
+guarded_index i c e = index_lt Full c (guarded_have i c e)
 
-pub table : (i : ℕ) → slice_get GUARDED i ≡ slice_get guarded_code_bits i
-table i = ap (λ l. slice_get l i) same_table
-
-pub guarded_index : (i : ℕ) (c : CodeBit) → slice_get GUARDED i ≡ Some c → index c < 36
-guarded_index i c e = index_lt Full c (guarded_have i c (sym (table i) ∙ e))
-
-pub guarded_number : (i : ℕ) (c : CodeBit) → slice_get GUARDED i ≡ Some c → c.2 < 11
-guarded_number i c e = bit_lt Full c (guarded_have i c (sym (table i) ∙ e))
+pub guarded_number : (i : ℕ) (c : CodeBit) → slice_get guarded_code_bits i ≡ Some c → c.2 < 11
+guarded_number i c e = bit_lt Full c (guarded_have i c e)
 
 -- PCB has no part in a(x)
 low : List CodeBit → Bool

@@ -48,12 +48,20 @@ pub(crate) fn bit(row: &Row, c: CodeBit) -> u8
     (row[c.index()] >> c.2 & 1) as u8
 }
 
-// A guarded code bit of the row: that at x^(17 - i) of a(x), or 0 past the last.
-#[tactic(auto, using(crate::proofs::Messages::guarded_index, crate::proofs::Messages::guarded_number, crate::proofs::Messages::table))]
+// The guarded code bit at x^(17 - i) of a(x); none past the last.
+#[tactic(auto, unfolding(packet_layout::specs::Guarded::guarded_code_bits))]
+fn guarded_code_bit(i: usize) -> Option<CodeBit>
+    ensures { result ≡ slice_get guarded_code_bits i }
+{
+    code_bit_at(&GUARDED, i)
+}
+
+// What it is in the row, or 0 past the last.
+#[tactic(auto, using(crate::proofs::Messages::guarded_index, crate::proofs::Messages::guarded_number))]
 fn guarded_bit(row: &Row, i: usize) -> u8
     ensures { result ≡ value row.now (slice_get guarded_code_bits i) }
 {
-    match code_bit_at(&GUARDED, i) {
+    match guarded_code_bit(i) {
         None => 0,
         Some(c) => bit(row, c),
     }

@@ -212,7 +212,7 @@ impl PacketKind for FullPacket {
 
     ghost each_once = { full };
 
-    #[tactic(auto, using(crate::proofs::Tables::full))]
+    #[tactic(auto, unfolding(packet_layout::specs::Layouts::layout))]
     fn code_bit(place: usize) -> Option<CodeBit> {
         code_bit_at(&FULL, place)
     }
@@ -310,7 +310,7 @@ impl PacketKind for HalfPacket {
 
     ghost each_once = { half };
 
-    #[tactic(auto, using(crate::proofs::Tables::half))]
+    #[tactic(auto, unfolding(packet_layout::specs::Layouts::layout))]
     fn code_bit(place: usize) -> Option<CodeBit> {
         code_bit_at(&HALF, place)
     }
@@ -368,7 +368,7 @@ impl PacketKind for QuarterPacket {
 
     ghost each_once = { quarter };
 
-    #[tactic(auto, using(crate::proofs::Tables::quarter))]
+    #[tactic(auto, unfolding(packet_layout::specs::Layouts::layout))]
     fn code_bit(place: usize) -> Option<CodeBit> {
         code_bit_at(&QUARTER, place)
     }
@@ -402,7 +402,7 @@ impl PacketKind for EighthPacket {
 
     ghost each_once = { eighth };
 
-    #[tactic(auto, using(crate::proofs::Tables::eighth))]
+    #[tactic(auto, unfolding(packet_layout::specs::Layouts::layout))]
     fn code_bit(place: usize) -> Option<CodeBit> {
         code_bit_at(&EIGHTH, place)
     }
