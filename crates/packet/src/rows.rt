@@ -5,23 +5,24 @@ ghost use Rattle.packet.specs.Codes.{in_order, numbers_of, row_of};
 
 use crate::check_bits::check_bits;
 use crate::codes::CodeNumbers;
+use packet_layout::Code;
 use service::Rate;
 
 /// LSP 1 to 10, PLAG 1 to 4, PGAIN 1 to 4, CBINDEX 1 to 8, CBGAIN 1 to 8, CBSEED and PCB.
 pub(crate) type Row = [u16; 36];
 
 // Where the codes of each name begin.
-const PLAG: usize = 10;
+const PLAG: usize = Code::Plag as usize;
 
-const PGAIN: usize = 14;
+const PGAIN: usize = Code::Pgain as usize;
 
-const CBINDEX: usize = 18;
+const CBINDEX: usize = Code::Cbindex as usize;
 
-const CBGAIN: usize = 26;
+const CBGAIN: usize = Code::Cbgain as usize;
 
-const CBSEED: usize = 34;
+const CBSEED: usize = Code::Cbseed as usize;
 
-const PCB: usize = 35;
+const PCB: usize = Code::Pcb as usize;
 
 // Writes codes into the row from a place on. Nothing is said of what stands past them.
 #[tactic(auto, using(crate::proofs::Fields::put_none, crate::proofs::Fields::put_more, crate::proofs::Fields::put_all))]
