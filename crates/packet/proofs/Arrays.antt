@@ -2,16 +2,17 @@
 use Rattle.std.proofs.Common.{◌≡◌, ◌≢◌, ℕ, ◌+◌, ◌<◌, List, [], ◌∷◌, ◌++◌, length, slice_index, zero-add, refl, sym, ◌∙◌, ap, arith}
 use Rattle.std.proofs.lemmas.List.{get_or_append_left, get_or-append-add, length-append}
 use Rattle.service.specs.declared.rates.Rate.{Rate}
-use Rattle.packet_layout.specs.declared.code_bits.Code.{Code}
-use Rattle.packet_layout.specs.declared.code_bits.Code.TheVariants.{Lsp, Plag, Pgain, Cbindex, Cbgain, Cbseed, Pcb}
+use Rattle.packet_layout.specs.declared.code_bits.CodeName.{CodeName}
+use Rattle.packet_layout.specs.declared.code_bits.CodeName.TheVariants.{Lsp, Plag, Pgain, Cbindex, Cbgain, Cbseed, Pcb}
 use Rattle.packet_layout.specs.CodeBits.{first}
 use Rattle.packet_layout.proofs.Names.{most}
 use Rattle.packet.specs.declared.codes.CodeNumbers.{CodeNumbers}
-use Rattle.packet.specs.Codes.{Fits, Within, in_order}
-use Rattle.packet.specs.Laws.{Sized}
+use Rattle.packet.specs.Codes.{Within, in_order}
+use Rattle.packet_layout.specs.CodeBits.{Fits}
+use Rattle.packet.specs.Codes.{Sized}
 
 -- the codes of a name; PCB is none of the codes
-abbrev pub codes_of : Code → CodeNumbers → List ℕ
+abbrev pub codes_of : CodeName → CodeNumbers → List ℕ
 codes_of Lsp c = c.lsp
 codes_of Plag c = c.plag
 codes_of Pgain c = c.pgain
@@ -20,7 +21,7 @@ codes_of Cbgain c = c.cbgain
 codes_of Cbseed c = c.cbseed ∷ []
 codes_of Pcb c = []
 
-pub codes_length : (c : CodeNumbers) → Sized c → (name : Code) → name ≢ Pcb → length (codes_of name c) ≡ most name
+pub codes_length : (c : CodeNumbers) → Sized c → (name : CodeName) → name ≢ Pcb → length (codes_of name c) ≡ most name
 codes_length c size Lsp other = size.lsp
 codes_length c size Plag other = size.plag
 codes_length c size Pgain other = size.pgain
@@ -29,7 +30,7 @@ codes_length c size Cbgain other = size.cbgain
 codes_length c size Cbseed other = refl
 codes_length c size Pcb other = absurd (other refl)
 
-pub all_fit : (rate : Rate) (c : CodeNumbers) → Within rate c → (name : Code) → name ≢ Pcb → Fits rate name (codes_of name c)
+pub all_fit : (rate : Rate) (c : CodeNumbers) → Within rate c → (name : CodeName) → name ≢ Pcb → Fits rate name (codes_of name c)
 all_fit rate c within Lsp other = within.lsp
 all_fit rate c within Plag other = within.plag
 all_fit rate c within Pgain other = within.pgain
@@ -65,7 +66,7 @@ module _ (c : CodeNumbers) (size : Sized c) where
   after_cbgain i j e = after_cbindex (8 + i) j (omega arith) ∙ past c.cbgain _ 8 i (8 + i) size.cbgain refl
 
   -- a code by its name stands in the order where its name begins
-  pub at_name : (name : Code) (i : ℕ) → name ≢ Pcb → i < most name → slice_index (in_order c) (first name + i) ≡ slice_index (codes_of name c) i
+  pub at_name : (name : CodeName) (i : ℕ) → name ≢ Pcb → i < most name → slice_index (in_order c) (first name + i) ≡ slice_index (codes_of name c) i
   at_name Lsp i other h = ap (slice_index (in_order c)) (zero-add i) ∙ front c.lsp _ 10 i size.lsp h
   at_name Plag i other h = after_lsp i (10 + i) refl ∙ front c.plag _ 4 i size.plag h
   at_name Pgain i other h = after_plag i (14 + i) refl ∙ front c.pgain _ 4 i size.pgain h
@@ -78,7 +79,7 @@ abbrev made : List ℕ → List ℕ → List ℕ → List ℕ → List ℕ → �
 made l p g i n s = record { lsp = l; plag = p; pgain = g; cbindex = i; cbgain = n; cbseed = s }
 
 -- two records with the same codes of each name are equal
-pub same_codes : (c d : CodeNumbers) → ((name : Code) → name ≢ Pcb → codes_of name c ≡ codes_of name d) → c ≡ d
+pub same_codes : (c d : CodeNumbers) → ((name : CodeName) → name ≢ Pcb → codes_of name c ≡ codes_of name d) → c ≡ d
 same_codes c d same =
     ap (λ l. made l c.plag c.pgain c.cbindex c.cbgain c.cbseed) (same Lsp (λ e. let h = ap first e in omega (arith, h)))
     ∙ ap (λ p. made d.lsp p c.pgain c.cbindex c.cbgain c.cbseed) (same Plag (λ e. let h = ap first e in omega (arith, h)))

@@ -6,7 +6,7 @@ use Rattle.service.specs.declared.rates.Rate.{Rate}
 use Rattle.service.specs.declared.rates.Rate.TheVariants.{Full, Half, Quarter, Eighth}
 use Rattle.cyclic.specs.Words.{sent, message, RightCheckBits}
 use Rattle.cyclic.proofs.Sent.{right_sent, sent_right}
-use Rattle.packet_layout.specs.declared.code_bits.Code.TheVariants.{Pcb}
+use Rattle.packet_layout.specs.declared.code_bits.CodeName.TheVariants.{Pcb}
 use Rattle.packet_layout.specs.CodeBits.{code_bit, first}
 use Rattle.packet_layout.specs.Guarded.{guarded, guarded_bits, guarded_code_bits}
 use Rattle.packet_layout.specs.Layouts.{at, layout}
@@ -16,8 +16,8 @@ use Rattle.packet.specs.declared.codes.CodeNumbers.{CodeNumbers}
 use Rattle.packet.specs.Bits.{bit, bit_at, number_of, value}
 use Rattle.packet.specs.Calls.{Holds, packet}
 use Rattle.packet.specs.CheckBits.{RightPacket, inversion, message_of, transmitted, word_of}
-use Rattle.packet.specs.Codes.{in_order, row_of}
-use Rattle.packet.specs.Laws.{Sized}
+use Rattle.packet.specs.Codes.{in_order, list_of}
+use Rattle.packet.specs.Codes.{Sized}
 use Rattle.packet.proofs.Arrays.{in_order_length}
 use Rattle.packet.proofs.Carried.{carried_is}
 use Rattle.packet.proofs.Packets.{packet_bit}
@@ -103,24 +103,24 @@ module _ (bytes : List ℕ) (c : CodeNumbers) (size : Sized c) (holds : Holds Fu
 
 -- ---- the packet of some codes
 
--- PCB is the last of the row
-pub row_pcb : (c : CodeNumbers) (pcb : ℕ) → Sized c → slice_index (row_of c pcb) 35 ≡ pcb
-row_pcb c pcb size = ap (slice_index (row_of c pcb)) (sym (in_order_length c size)) ∙ get_or-append_seam (in_order c) pcb [] 0
+-- PCB is the last of the list
+pub list_pcb : (c : CodeNumbers) (pcb : ℕ) → Sized c → slice_index (list_of c pcb) 35 ≡ pcb
+list_pcb c pcb size = ap (slice_index (list_of c pcb)) (sym (in_order_length c size)) ∙ get_or-append_seam (in_order c) pcb [] 0
 
 abbrev message_of_codes : CodeNumbers → ℕ
 message_of_codes c = message_of (in_order c)
 
-abbrev full_row : CodeNumbers → List ℕ
-full_row c = row_of c (transmitted (message_of_codes c))
+abbrev full_list : CodeNumbers → List ℕ
+full_list c = list_of c (transmitted (message_of_codes c))
 
 module _ (c : CodeNumbers) (size : Sized c) where
   pcb_lt : transmitted (message_of_codes c) < 2 ^ 11
   pcb_lt = xor_lt 11 (sent (message_of_codes c) % 2 ^ 11) inversion (omega arith) (omega arith)
 
-  packed_guarded : (i : ℕ) → i < 29 → received (packet Full c) i ≡ value (full_row c) (slice_get guarded i)
+  packed_guarded : (i : ℕ) → i < 29 → received (packet Full c) i ≡ value (full_list c) (slice_get guarded i)
   packed_guarded i h =
       let p = place Full (slice_index guarded_bits i) in
-      packet_bit Full (full_row c) p (omega arith) ∙ carried_is Full (full_row c) p ∙ ap (value (full_row c)) (guarded_places i h)
+      packet_bit Full (full_list c) p (omega arith) ∙ carried_is Full (full_list c) p ∙ ap (value (full_list c)) (guarded_places i h)
 
   packed_lower : lower (packet Full c) ≡ transmitted (message_of_codes c)
   packed_lower =
@@ -129,7 +129,7 @@ module _ (c : CodeNumbers) (size : Sized c) where
       let j = 10 - i in
       let e : 28 - j ≡ 18 + i = omega arith in
       let at_i : slice_get guarded (18 + i) ≡ Some (code_bit Pcb 1 j) = ap (slice_get guarded) (sym e) ∙ guarded_pcb j (omega arith) in
-      packed_guarded (18 + i) (omega arith) ∙ ap (value (full_row c)) at_i ∙ ap (λ n. bit n j) (row_pcb c (transmitted (message_of_codes c)) size))
+      packed_guarded (18 + i) (omega arith) ∙ ap (value (full_list c)) at_i ∙ ap (λ n. bit n j) (list_pcb c (transmitted (message_of_codes c)) size))
       ∙ number_again (transmitted (message_of_codes c)) 11 pcb_lt
 
   packed_word : Holds Full (packet Full c) c → word_of (packet Full c) ≡ sent (message_of_codes c)

@@ -1,11 +1,11 @@
--- The codes that a packet holds, from the row that was read.
+-- The codes that a packet holds, from the list that was read.
 use Rattle.std.proofs.Common.{◌≡◌, ◌≢◌, ℕ, ◌+◌, ◌-◌, ◌^◌, ◌<◌, ◌≤◌, nat_lt, List, [], ◌∷◌, take, drop, Some, slice_index, refl, sym, ◌∙◌, ap, subst, arith}
 use Rattle.std.proofs.lemmas.Bool.{cond-true, lt-ltb}
 use Rattle.std.proofs.lemmas.List.{get_or-drop, get_or-take, length-take}
 use Rattle.service.specs.declared.rates.Rate.{Rate}
 use Rattle.service.specs.Rates.{rate_is}
-use Rattle.packet_layout.specs.declared.code_bits.Code.{Code}
-use Rattle.packet_layout.specs.declared.code_bits.Code.TheVariants.{Lsp, Plag, Pgain, Cbindex, Cbgain, Cbseed, Pcb}
+use Rattle.packet_layout.specs.declared.code_bits.CodeName.{CodeName}
+use Rattle.packet_layout.specs.declared.code_bits.CodeName.TheVariants.{Lsp, Plag, Pgain, Cbindex, Cbgain, Cbseed, Pcb}
 use Rattle.packet_layout.specs.declared.code_bits.CodeBit.{CodeBit}
 use Rattle.packet_layout.specs.CodeBits.{Has, bits_at, code_bit, count, width, first, index}
 use Rattle.packet_layout.specs.Layouts.{at, layout}
@@ -15,12 +15,13 @@ use Rattle.packet_layout.proofs.Once.{place_lt}
 use Rattle.packet.specs.Bits.{bit, bit_at, value}
 use Rattle.packet.specs.Reading.{CarriedBefore, HoldsBits, ReadsTo}
 use Rattle.packet.specs.Calls.{Holds}
-use Rattle.packet.specs.Codes.{Fits, Within, in_order, numbers_of}
-use Rattle.packet.proofs.Fields.{row_again}
+use Rattle.packet.specs.Codes.{Within, in_order, numbers_of}
+use Rattle.packet_layout.specs.CodeBits.{Fits}
+use Rattle.packet.proofs.Fields.{list_again}
 use Rattle.packet.proofs.Numbers.{width_of}
 
 -- no place carries a bit above a code's width, or of a code that the rate lacks
-not_carried : (rate : Rate) (n : ℕ) (name : Code) (i b : ℕ) → i < most name → bits_at rate name i ≤ b → CarriedBefore rate n (first name + i) b → ⊥
+not_carried : (rate : Rate) (n : ℕ) (name : CodeName) (i b : ℕ) → i < most name → bits_at rate name i ≤ b → CarriedBefore rate n (first name + i) b → ⊥
 not_carried rate n name i b h above (k, (c, (less, (e, (ei, eb))))) =
     let has : Has rate c = (at_each_rate rate).carried k c e in
     let at_i : index c ≡ first name + (i + 1) - 1 = omega (arith, ei) in
@@ -32,24 +33,24 @@ not_carried rate n name i b h above (k, (c, (less, (e, (ei, eb))))) =
     omega (arith, this.bit, w)
 
 -- each code that was read is within its width
-module _ (rate : Rate) (packet row : List ℕ) (r : HoldsBits rate (rate_is rate).bits packet row) where
-  read_fits : (name : Code) (i : ℕ) → i < most name → slice_index row (first name + i) < 2 ^ bits_at rate name i
+module _ (rate : Rate) (packet list : List ℕ) (r : HoldsBits rate (rate_is rate).bits packet list) where
+  read_fits : (name : CodeName) (i : ℕ) → i < most name → slice_index list (first name + i) < 2 ^ bits_at rate name i
   read_fits name i h =
       let less : first name + i < 36 = omega (arith, below name (i + 1) (omega arith)) in
-      width_of (slice_index row (first name + i)) (bits_at rate name i)
+      width_of (slice_index list (first name + i)) (bits_at rate name i)
       (λ b above. r.others (first name + i) b less (not_carried rate (rate_is rate).bits name i b h above))
 
-  part_fits : (name : Code) → Fits rate name (take (most name) (drop (first name) row))
+  part_fits : (name : CodeName) → Fits rate name (take (most name) (drop (first name) list))
   part_fits name i h =
-      let codes = drop (first name) row in
+      let codes = drop (first name) list in
       let less : i < most name = omega (arith, length-take (most name) codes) in
-      let e : slice_index (take (most name) codes) i ≡ slice_index row (first name + i) = get_or-take (most name) codes i 0 less ∙ get_or-drop (first name) row i 0 in
+      let e : slice_index (take (most name) codes) i ≡ slice_index list (first name + i) = get_or-take (most name) codes i 0 less ∙ get_or-drop (first name) list i 0 in
       subst (λ x. x < 2 ^ bits_at rate name i) (sym e) (read_fits name i less)
 
-  seed_fits : Fits rate Cbseed (slice_index row (first Cbseed) ∷ [])
-  seed_fits i h = let z : 0 ≡ i = omega arith in subst (λ j. slice_index (slice_index row (first Cbseed) ∷ []) j < 2 ^ bits_at rate Cbseed j) z (read_fits Cbseed 0 (omega arith))
+  seed_fits : Fits rate Cbseed (slice_index list (first Cbseed) ∷ [])
+  seed_fits i h = let z : 0 ≡ i = omega arith in subst (λ j. slice_index (slice_index list (first Cbseed) ∷ []) j < 2 ^ bits_at rate Cbseed j) z (read_fits Cbseed 0 (omega arith))
 
-  read_within : Within rate (numbers_of row)
+  read_within : Within rate (numbers_of list)
   read_within = record {
     lsp = part_fits Lsp;
     plag = part_fits Plag;
@@ -59,23 +60,23 @@ module _ (rate : Rate) (packet row : List ℕ) (r : HoldsBits rate (rate_is rate
     cbseed = seed_fits;
   }
 
-  read_bits : (k : ℕ) (b : CodeBit) → at (layout rate) k ≡ Some b → b.0 ≢ Pcb → value (in_order (numbers_of row)) (Some b) ≡ bit_at packet k
+  read_bits : (k : ℕ) (b : CodeBit) → at (layout rate) k ≡ Some b → b.0 ≢ Pcb → value (in_order (numbers_of list)) (Some b) ≡ bit_at packet k
   read_bits k b e other =
       let law = at_each_rate rate in
-      let front : in_order (numbers_of row) ≡ take 35 row = row_again row (numbers_of row) r.size refl refl refl refl refl refl in
+      let front : in_order (numbers_of list) ≡ take 35 list = list_again list (numbers_of list) r.size refl refl refl refl refl refl in
       let less : index b < 35 = index_lt_pcb rate b (law.carried k b e) other in
-      ap (λ xs. value xs (Some b)) front ∙ ap (λ n. bit n b.2) (get_or-take 35 row (index b) 0 less)
+      ap (λ xs. value xs (Some b)) front ∙ ap (λ n. bit n b.2) (get_or-take 35 list (index b) 0 less)
       ∙ r.bits k b (omega (arith, place_lt (layout rate) k b e, law.bits)) e
 
-pub read_holds : (rate : Rate) (packet row : List ℕ) → ReadsTo rate (rate_is rate).bits packet row → Holds rate packet (numbers_of row)
+pub read_holds : (rate : Rate) (packet list : List ℕ) → ReadsTo rate (rate_is rate).bits packet list → Holds rate packet (numbers_of list)
 unfolding ReadsTo
-read_holds rate packet row r = record { within = read_within rate packet row r; bits = read_bits rate packet row r }
+read_holds rate packet list r = record { within = read_within rate packet list r; bits = read_bits rate packet list r }
 
 -- each code but PCB fits a byte
-pub read_narrow : (rate : Rate) (packet row : List ℕ) → ReadsTo rate (rate_is rate).bits packet row
-    → (s : ℕ) → s < 35 → slice_index row s < 256
+pub read_narrow : (rate : Rate) (packet list : List ℕ) → ReadsTo rate (rate_is rate).bits packet list
+    → (s : ℕ) → s < 35 → slice_index list s < 256
 unfolding ReadsTo
-read_narrow rate packet row r s h =
-    width_of (slice_index row s) 8
+read_narrow rate packet list r s h =
+    width_of (slice_index list s) 8
     (λ b above. r.others s b (omega arith)
     (λ (k, (c, (less, (e, (ei, eb))))). omega (arith, bit_lt_code rate c ((at_each_rate rate).carried k c e) (omega arith))))

@@ -1,11 +1,11 @@
--- The guarded code bits of a row of codes.
+-- The guarded code bits of a list of codes.
 use Rattle.std.proofs.Common.{◌≡◌, ℕ, zero, suc, ◌+◌, ◌*◌, ◌^◌, ◌<◌, ◌≤◌, Bool, true, nat_lt, ◌&&◌, List, [], ◌∷◌, ◌++◌, length, Option, Some, None, slice_get, refl, ◌∙◌, ap, ap₂, subst, arith}
 use Rattle.std.proofs.lemmas.Bool.{and_parts}
 use Rattle.std.proofs.lemmas.Bool.Decides.{nat_tests}
 use Rattle.std.proofs.lemmas.List.{get_or_append_left, length-append}
 use Rattle.packet_layout.proofs.Once.{none_some, same_some}
 use Rattle.packet.specs.declared.codes.CodeNumbers.{CodeNumbers}
-use Rattle.packet.specs.Codes.{in_order, row_of}
+use Rattle.packet.specs.Codes.{in_order, list_of}
 use Rattle.std.proofs.Math.Pow.{pow_mono}
 use Rattle.packet_layout.specs.declared.code_bits.CodeBit.{CodeBit}
 use Rattle.packet_layout.specs.CodeBits.{index}
@@ -20,24 +20,24 @@ use Rattle.packet.proofs.Numbers.{number_lt, number_more, number_none}
 
 -- the number of the first n guarded code bits
 unfoldable pub first_guarded : List ℕ → ℕ → ℕ
-first_guarded row n = number_of (λ i. value row (slice_get guarded_code_bits i)) n
+first_guarded list n = number_of (λ i. value list (slice_get guarded_code_bits i)) n
 
-module _ (row : List ℕ) where
-  pub guarded_none : first_guarded row 0 ≡ 0
+module _ (list : List ℕ) where
+  pub guarded_none : first_guarded list 0 ≡ 0
   unfolding first_guarded
-  guarded_none = number_none (λ i. value row (slice_get guarded_code_bits i))
+  guarded_none = number_none (λ i. value list (slice_get guarded_code_bits i))
 
-  pub guarded_more : (n : ℕ) → first_guarded row (n + 1) ≡ first_guarded row n * 2 + value row (slice_get guarded_code_bits n)
+  pub guarded_more : (n : ℕ) → first_guarded list (n + 1) ≡ first_guarded list n * 2 + value list (slice_get guarded_code_bits n)
   unfolding first_guarded
-  guarded_more n = number_more (λ i. value row (slice_get guarded_code_bits i)) n
+  guarded_more n = number_more (λ i. value list (slice_get guarded_code_bits i)) n
 
-  pub guarded_lt : (n : ℕ) → n ≤ 18 → first_guarded row n < 2 ^ 18
+  pub guarded_lt : (n : ℕ) → n ≤ 18 → first_guarded list n < 2 ^ 18
   unfolding first_guarded
   guarded_lt n h =
       let m : 2 ^ n ≤ 2 ^ 18 = pow_mono {j = 18} (omega arith) in
-      omega (arith, number_lt (λ i. value row (slice_get guarded_code_bits i)) (λ i. value_lt row (slice_get guarded_code_bits i)) n)
+      omega (arith, number_lt (λ i. value list (slice_get guarded_code_bits i)) (λ i. value_lt list (slice_get guarded_code_bits i)) n)
 
-  pub message_is : message_of row ≡ first_guarded row 18
+  pub message_is : message_of list ≡ first_guarded list 18
   unfolding message_of first_guarded
   message_is = refl
 
@@ -81,7 +81,7 @@ message_of_front codes rest long =
 pub in_order_length : (c : CodeNumbers) → length c.lsp ≡ 10 → length c.plag ≡ 4 → length c.pgain ≡ 4 → length c.cbindex ≡ 8 → length c.cbgain ≡ 8 → length (in_order c) ≡ 35
 in_order_length c h1 h2 h3 h4 h5 = simp length-append (omega arith)
 
-pub message_of_codes : (c : CodeNumbers) (pcb : ℕ) (row : List ℕ) → row ≡ row_of c pcb → length row ≡ 36 → message_of row ≡ message_of (in_order c)
-message_of_codes c pcb row e long =
+pub message_of_codes : (c : CodeNumbers) (pcb : ℕ) (list : List ℕ) → list ≡ list_of c pcb → length list ≡ 36 → message_of list ≡ message_of (in_order c)
+message_of_codes c pcb list e long =
     let h : length (in_order c) ≡ 35 = omega (arith, ap length e, length-append (in_order c) (pcb ∷ [])) in
     ap message_of e ∙ message_of_front (in_order c) (pcb ∷ []) h

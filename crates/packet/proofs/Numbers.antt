@@ -30,7 +30,7 @@ module _ (f : ℕ → ℕ) (small : (k : ℕ) → f k < 2) where
 pub bit_of_or : (m n b : ℕ) → bit (bit_or m n) b ≡ bit_or (bit m b) (bit n b)
 bit_of_or m n b = ap (λ x. x % 2) (or_shr m n b) ∙ or_mod (m / 2 ^ b) (n / 2 ^ b) 1
 
--- at the 16 bits of a code of the row nothing is shifted out
+-- at the 16 bits of a code of the list nothing is shifted out
 pub shifted_whole : (x b : ℕ) → x < 2 → b < 16 → x * 2 ^ b % 65536 ≡ x * 2 ^ b
 shifted_whole x b h l = shl_whole x 1 b 16 h (omega arith)
 

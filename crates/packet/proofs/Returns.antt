@@ -5,8 +5,8 @@ use Rattle.std.proofs.lemmas.List.{ext_get_or, get_or_append_left}
 use Rattle.service.specs.declared.rates.Rate.{Rate}
 use Rattle.service.specs.declared.rates.Rate.TheVariants.{Full, Half, Quarter, Eighth}
 use Rattle.service.specs.Rates.{rate_is}
-use Rattle.packet_layout.specs.declared.code_bits.Code.{Code}
-use Rattle.packet_layout.specs.declared.code_bits.Code.TheVariants.{Pcb}
+use Rattle.packet_layout.specs.declared.code_bits.CodeName.{CodeName}
+use Rattle.packet_layout.specs.declared.code_bits.CodeName.TheVariants.{Pcb}
 use Rattle.packet_layout.specs.declared.code_bits.CodeBit.{CodeBit}
 use Rattle.packet_layout.specs.CodeBits.{Has, bits_at, code_bit, count, width, first, index}
 use Rattle.packet_layout.specs.Layouts.{at, layout}
@@ -17,15 +17,16 @@ use Rattle.packet.specs.declared.codes.CodeNumbers.{CodeNumbers}
 use Rattle.packet.specs.Bits.{bit, bit_at, value}
 use Rattle.packet.specs.Calls.{Holds, packet}
 use Rattle.packet.specs.CheckBits.{pcb_of}
-use Rattle.packet.specs.Codes.{in_order, row_of}
-use Rattle.packet.specs.Laws.{OneRecord, Sized}
+use Rattle.packet.specs.Codes.{in_order, list_of}
+use Rattle.packet.specs.Laws.{OneRecord}
+use Rattle.packet.specs.Codes.{Sized}
 use Rattle.packet.proofs.Arrays.{all_fit, at_name, codes_length, codes_of, in_order_length, same_codes}
 use Rattle.packet.proofs.Carried.{carried_some}
 use Rattle.packet.proofs.Numbers.{same_bits}
 use Rattle.packet.proofs.Packets.{packet_bit}
 
 -- a bit that a code has at the rate is one of its code bits
-has_bit : (rate : Rate) (name : Code) (i b : ℕ) → b < bits_at rate name i → Has rate (code_bit name (i + 1) b)
+has_bit : (rate : Rate) (name : CodeName) (i b : ℕ) → b < bits_at rate name i → Has rate (code_bit name (i + 1) b)
 has_bit rate name i b h =
     elim (cases_lt i (count rate name)) [
       | inl less ↦
@@ -38,7 +39,7 @@ has_bit rate name i b h =
 
 -- a code bit but PCB's is the same whatever PCB is
 pub value_of_codes : (rate : Rate) (c : CodeNumbers) (pcb : ℕ) → Sized c → (b : CodeBit) → Has rate b → b.0 ≢ Pcb
-    → value (row_of c pcb) (Some b) ≡ value (in_order c) (Some b)
+    → value (list_of c pcb) (Some b) ≡ value (in_order c) (Some b)
 value_of_codes rate c pcb size b has other =
     ap (λ n. bit n b.2) (get_or_append_left (in_order c) (pcb ∷ []) 0 (index b) (omega (arith, in_order_length c size, index_lt_pcb rate b has other)))
 
@@ -51,11 +52,11 @@ pub packet_holds : (rate : Rate) (c : CodeNumbers) → Sized c → (k : ℕ) (b 
     → value (in_order c) (Some b) ≡ bit_at (packet rate c) k
 packet_holds rate c size k b e other =
     let law = at_each_rate rate in
-    let row = row_of c (pcb_of rate c) in
-    sym (packet_bit rate row k (omega (arith, place_lt (layout rate) k b e, law.bits, room rate)) ∙ carried_some rate row k b e ∙ value_of_codes rate c (pcb_of rate c) size b (law.carried k b e) other)
+    let list = list_of c (pcb_of rate c) in
+    sym (packet_bit rate list k (omega (arith, place_lt (layout rate) k b e, law.bits, room rate)) ∙ carried_some rate list k b e ∙ value_of_codes rate c (pcb_of rate c) size b (law.carried k b e) other)
 
 module _ (rate : Rate) (bytes : List ℕ) (c d : CodeNumbers) (c-size : Sized c) (d-size : Sized d) (c-holds : Holds rate bytes c) (d-holds : Holds rate bytes d) where
-  same_bit : (name : Code) (i b : ℕ) → name ≢ Pcb → i < most name → b < bits_at rate name i → bit (slice_index (codes_of name d) i) b ≡ bit (slice_index (codes_of name c) i) b
+  same_bit : (name : CodeName) (i b : ℕ) → name ≢ Pcb → i < most name → b < bits_at rate name i → bit (slice_index (codes_of name d) i) b ≡ bit (slice_index (codes_of name c) i) b
   same_bit name i b other h hb =
       let cb = code_bit name (i + 1) b in
       let has : Has rate cb = has_bit rate name i b hb in
@@ -66,7 +67,7 @@ module _ (rate : Rate) (bytes : List ℕ) (c d : CodeNumbers) (c-size : Sized c)
       ∙ both
       ∙ ap (λ n. bit n b) (ap (slice_index (in_order c)) at_i ∙ at_name c c-size name i other h)
 
-  same_name : (name : Code) → name ≢ Pcb → codes_of name d ≡ codes_of name c
+  same_name : (name : CodeName) → name ≢ Pcb → codes_of name d ≡ codes_of name c
   same_name name other =
       let long-d = codes_length d d-size name other in
       let long-c = codes_length c c-size name other in

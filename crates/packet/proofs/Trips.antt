@@ -8,7 +8,7 @@ use Rattle.service.specs.declared.rates.Rate.TheVariants.{Full, Half, Quarter, E
 use Rattle.service.specs.Categories.{category_of}
 use Rattle.service.specs.Rates.{rate_is}
 use Rattle.service.specs.Tests.{spare_bits_set}
-use Rattle.packet_layout.specs.declared.code_bits.Code.TheVariants.{Pcb}
+use Rattle.packet_layout.specs.declared.code_bits.CodeName.TheVariants.{Pcb}
 use Rattle.packet_layout.specs.declared.code_bits.CodeBit.{CodeBit}
 use Rattle.packet_layout.specs.CodeBits.{code_bit, first, index}
 use Rattle.packet_layout.specs.Layouts.{at, layout}
@@ -19,10 +19,11 @@ use Rattle.packet.specs.declared.codes.CodeNumbers.{CodeNumbers}
 use Rattle.packet.specs.Bits.{bit, bit_at, byte_of, value}
 use Rattle.packet.specs.Calls.{Holds, Lawful, packet}
 use Rattle.packet.specs.CheckBits.{RightPacket, pcb_of}
-use Rattle.packet.specs.Codes.{row_of}
-use Rattle.packet.specs.Laws.{PackingReturnsThePacket, Sized, UnpackingReturnsTheCodes}
+use Rattle.packet.specs.Codes.{list_of}
+use Rattle.packet.specs.Laws.{PackingReturnsThePacket, UnpackingReturnsTheCodes}
+use Rattle.packet.specs.Codes.{Sized}
 use Rattle.packet.proofs.Carried.{carried_is}
-use Rattle.packet.proofs.Checked.{right_packet, right_pcb, row_pcb}
+use Rattle.packet.proofs.Checked.{right_packet, right_pcb, list_pcb}
 use Rattle.packet.proofs.Numbers.{same_bits}
 use Rattle.packet.proofs.Packets.{byte_at, byte_bit, byte_lt, packet_length}
 use Rattle.packet.proofs.Returns.{packet_holds, same, value_of_codes}
@@ -60,8 +61,8 @@ pcb_here Quarter bytes c size holds right k j e = let l = ((at_each_rate Quarter
 pcb_here Eighth bytes c size holds right k j e = let l = ((at_each_rate Eighth).carried k (code_bit Pcb 1 j) e).to in absurd (omega arith)
 
 module _ (rate : Rate) (bytes : List ℕ) (c : CodeNumbers) (size : Sized c) (holds : Holds rate bytes c) (lawful : Lawful rate bytes) (right : RightPacket rate bytes) where
-  -- a code bit of the row is the packet's
-  bit_here : (k : ℕ) (b : CodeBit) → at (layout rate) k ≡ Some b → value (row_of c (pcb_of rate c)) (Some b) ≡ bit_at bytes k
+  -- a code bit of the list is the packet's
+  bit_here : (k : ℕ) (b : CodeBit) → at (layout rate) k ≡ Some b → value (list_of c (pcb_of rate c)) (Some b) ≡ bit_at bytes k
   bit_here k b e =
       let has = (at_each_rate rate).carried k b e in
       let pcb = pcb_of rate c in
@@ -71,27 +72,27 @@ module _ (rate : Rate) (bytes : List ℕ) (c : CodeNumbers) (size : Sized c) (ho
             value_of_codes rate c pcb size b has other ∙ holds.bits k b e other
         | inr past ↦
             let is : b ≡ code_bit Pcb 1 b.2 = last_is_pcb rate b has past in
-            ap (λ x. value (row_of c pcb) (Some x)) is ∙ ap (λ n. bit n b.2) (row_pcb c pcb size)
+            ap (λ x. value (list_of c pcb) (Some x)) is ∙ ap (λ n. bit n b.2) (list_pcb c pcb size)
             ∙ pcb_here rate bytes c size holds right k b.2 (e ∙ ap Some is)
       ]
 
-  place_here : (k : ℕ) (o : Option CodeBit) → k < 8 * (rate_is rate).bytes → at (layout rate) k ≡ o → value (row_of c (pcb_of rate c)) o ≡ bit_at bytes k
+  place_here : (k : ℕ) (o : Option CodeBit) → k < 8 * (rate_is rate).bytes → at (layout rate) k ≡ o → value (list_of c (pcb_of rate c)) o ≡ bit_at bytes k
   place_here k None h e = sym (spare_zero rate bytes lawful k (omega (arith, none_le (layout rate) k e, (at_each_rate rate).bits)) h)
   place_here k (Some b) h e = bit_here k b e
 
   packed_again : ((j : ℕ) → slice_index bytes j < 256) → packet rate c ≡ bytes
   packed_again small =
-      let row = row_of c (pcb_of rate c) in
-      ext_get_or 0 (packet rate c) bytes (packet_length rate row ∙ sym lawful.length)
+      let list = list_of c (pcb_of rate c) in
+      ext_get_or 0 (packet rate c) bytes (packet_length rate list ∙ sym lawful.length)
       (λ j h.
-      let less : j < (rate_is rate).bytes = omega (arith, packet_length rate row) in
-      byte_at rate row j less
-      ∙ same_bits 8 (byte_of rate row j) (slice_index bytes j) (byte_lt rate row j) (small j)
+      let less : j < (rate_is rate).bytes = omega (arith, packet_length rate list) in
+      byte_at rate list j less
+      ∙ same_bits 8 (byte_of rate list j) (slice_index bytes j) (byte_lt rate list j) (small j)
       (λ b hb.
       let k = 8 * j + (7 - b) in
       let j-of-k : k / 8 ≡ j = omega arith in
       let b-of-k : 7 - k % 8 ≡ b = omega arith in
-      byte_bit rate row j b hb ∙ carried_is rate row k ∙ place_here k (at (layout rate) k) (omega arith) refl
+      byte_bit rate list j b hb ∙ carried_is rate list k ∙ place_here k (at (layout rate) k) (omega arith) refl
       ∙ ap (λ i. bit (slice_index bytes i) (7 - k % 8)) j-of-k ∙ ap (bit (slice_index bytes j)) b-of-k))
 
 pub packing_returns : PackingReturnsThePacket
@@ -102,10 +103,10 @@ packing_returns rate bytes c small lawful right size holds = packed_again rate b
 -- no bit of the last byte past those of the packet is set
 packed_none : (c : CodeNumbers) (b : ℕ) → b < 5 → bit (slice_index (packet Full c) 21) b ≡ 0
 packed_none c b h =
-    let row = row_of c (pcb_of Full c) in
+    let list = list_of c (pcb_of Full c) in
     let k = 8 * 21 + (7 - b) in
     let none : at (layout Full) k ≡ None = at_past (layout Full) k (omega (arith, (at_each_rate Full).bits)) in
-    ap (λ n. bit n b) (byte_at Full row 21 (omega arith)) ∙ byte_bit Full row 21 b (omega arith) ∙ carried_is Full row k ∙ ap (value row) none
+    ap (λ n. bit n b) (byte_at Full list 21 (omega arith)) ∙ byte_bit Full list 21 b (omega arith) ∙ carried_is Full list k ∙ ap (value list) none
 
 packed_spare : (rate : Rate) (c : CodeNumbers) → spare_bits_set (category_of (rate_is rate).number) (packet rate c) ≡ false
 packed_spare Full c =
@@ -120,7 +121,7 @@ pub unpacking_returns : UnpackingReturnsTheCodes
 unpacking_returns rate c size within =
     let holds : Holds rate (packet rate c) c = record { within = within; bits = packet_holds rate c size } in
     record {
-      lawful = record { length = packet_length rate (row_of c (pcb_of rate c)); spare = packed_spare rate c };
+      lawful = record { length = packet_length rate (list_of c (pcb_of rate c)); spare = packed_spare rate c };
       right = right_packet rate c size holds;
       holds = holds;
       only = λ d d-size d-holds. same rate (packet rate c) c d size d-size holds d-holds;

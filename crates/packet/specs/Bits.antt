@@ -17,12 +17,12 @@ bit_at bytes k = bit (slice_index bytes (k / 8)) (7 - k % 8)
 
 -- a code bit of the codes of a frame in order; 0 for none
 abbrev pub value : List ℕ → Option CodeBit → ℕ
-value row None = 0
-value row (Some c) = bit (slice_index row (index c)) c.2
+value list None = 0
+value list (Some c) = bit (slice_index list (index c)) c.2
 
 -- what a place of the packet of these codes carries; 0 at a spare place
 unfoldable pub carried : Rate → List ℕ → ℕ → ℕ
-carried rate row k = value row (at (layout rate) k)
+carried rate list k = value list (at (layout rate) k)
 
 -- the number of n bits, the highest first
 unfoldable pub number_of : (ℕ → ℕ) → ℕ → ℕ
@@ -31,7 +31,7 @@ number_of f (suc n) = number_of f n * 2 + f n
 
 -- a byte of the packet of the 36 codes in order, and the packet
 unfoldable pub byte_of : Rate → List ℕ → ℕ → ℕ
-byte_of rate row j = number_of (λ t. carried rate row (8 * j + t)) 8
+byte_of rate list j = number_of (λ t. carried rate list (8 * j + t)) 8
 
 unfoldable pub packet_of : Rate → List ℕ → List ℕ
-packet_of rate row = map (byte_of rate row) (range_with_len 0 (rate_is rate).bytes)
+packet_of rate list = map (byte_of rate list) (range_with_len 0 (rate_is rate).bytes)

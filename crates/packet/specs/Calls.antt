@@ -6,17 +6,17 @@ use Rattle.service.specs.Categories.{category_of}
 use Rattle.service.specs.Rates.{rate_is}
 use Rattle.service.specs.Refusals.{refusal_is, refused}
 use Rattle.service.specs.Tests.{spare_bits_set}
-use Rattle.packet_layout.specs.declared.code_bits.Code.TheVariants.{Pcb}
+use Rattle.packet_layout.specs.declared.code_bits.CodeName.TheVariants.{Pcb}
 use Rattle.packet_layout.specs.declared.code_bits.CodeBit.{CodeBit}
 use Rattle.packet_layout.specs.Layouts.{at, layout}
 use Rattle.packet.specs.declared.codes.CodeNumbers.{CodeNumbers}
 use Rattle.packet.specs.Bits.{bit_at, packet_of, value}
 use Rattle.packet.specs.CheckBits.{pcb_of}
-use Rattle.packet.specs.Codes.{Within, in_order, row_of}
+use Rattle.packet.specs.Codes.{Within, in_order, list_of}
 
 -- the bytes of the packet of some codes, with its check bits
 abbrev pub packet : Rate → CodeNumbers → List ℕ
-packet rate c = packet_of rate (row_of c (pcb_of rate c))
+packet rate c = packet_of rate (list_of c (pcb_of rate c))
 
 -- the packet is written from the buffer's start, the rest of the buffer is kept, and the packet's length is answered
 pub record Packed (rate : Rate) (c : CodeNumbers) (before after : List ℕ) (n : ℕ) : Type 0 where

@@ -1,17 +1,21 @@
 -- The codes of a frame. Assumes nothing.
-use Rattle.std.specs.Prelude.{ℕ, ◌^◌, ◌<◌, List, [], ◌∷◌, ◌++◌, length, slice_index, take, drop}
+use Rattle.std.specs.Prelude.{◌≡◌, ℕ, List, [], ◌∷◌, ◌++◌, length, slice_index, take, drop}
 use Rattle.service.specs.declared.rates.Rate.{Rate}
-use Rattle.packet_layout.specs.declared.code_bits.Code.{Code}
-use Rattle.packet_layout.specs.declared.code_bits.Code.TheVariants.{Lsp, Plag, Pgain, Cbindex, Cbgain, Cbseed}
-use Rattle.packet_layout.specs.CodeBits.{bits_at, first}
+use Rattle.packet_layout.specs.declared.code_bits.CodeName.TheVariants.{Lsp, Plag, Pgain, Cbindex, Cbgain, Cbseed}
+use Rattle.packet_layout.specs.CodeBits.{Fits, first}
 use Rattle.packet.specs.declared.codes.CodeNumbers.{CodeNumbers}
 
--- each code of a name is within its width, so that a code that the rate lacks is zero
-abbrev pub Fits : Rate → Code → List ℕ → Type 0
-Fits rate name codes = (i : ℕ) → i < length codes → slice_index codes i < 2 ^ bits_at rate name i
+-- a record has so many codes of each name, whether or not the rate has them
+pub record Sized (c : CodeNumbers) : Type 0 where
+  pub lsp : length c.lsp ≡ 10
+  pub plag : length c.plag ≡ 4
+  pub pgain : length c.pgain ≡ 4
+  pub cbindex : length c.cbindex ≡ 8
+  pub cbgain : length c.cbgain ≡ 8
 
--- and so are all codes of a frame
+-- a record of codes of a rate: each code is within its width, so that a code that the rate lacks is zero
 pub record Within (rate : Rate) (c : CodeNumbers) : Type 0 where
+  pub sized : Sized c
   pub lsp : Fits rate Lsp c.lsp
   pub plag : Fits rate Plag c.plag
   pub pgain : Fits rate Pgain c.pgain
@@ -19,21 +23,21 @@ pub record Within (rate : Rate) (c : CodeNumbers) : Type 0 where
   pub cbgain : Fits rate Cbgain c.cbgain
   pub cbseed : Fits rate Cbseed (c.cbseed ∷ [])
 
--- the codes of a frame in order
+-- the 35 codes of a frame in order
 abbrev pub in_order : CodeNumbers → List ℕ
 in_order c = c.lsp ++ (c.plag ++ (c.pgain ++ (c.cbindex ++ (c.cbgain ++ (c.cbseed ∷ [])))))
 
 -- the 36 codes of a frame in order: these, and PCB
-abbrev pub row_of : CodeNumbers → ℕ → List ℕ
-row_of c pcb = in_order c ++ (pcb ∷ [])
+abbrev pub list_of : CodeNumbers → ℕ → List ℕ
+list_of c pcb = in_order c ++ (pcb ∷ [])
 
--- the codes that stand in this order
+-- the record of codes that stand in this order
 abbrev pub numbers_of : List ℕ → CodeNumbers
-numbers_of row = record {
-  lsp = take 10 (drop (first Lsp) row);
-  plag = take 4 (drop (first Plag) row);
-  pgain = take 4 (drop (first Pgain) row);
-  cbindex = take 8 (drop (first Cbindex) row);
-  cbgain = take 8 (drop (first Cbgain) row);
-  cbseed = slice_index row (first Cbseed);
+numbers_of list = record {
+  lsp = take 10 (drop (first Lsp) list);
+  plag = take 4 (drop (first Plag) list);
+  pgain = take 4 (drop (first Pgain) list);
+  cbindex = take 8 (drop (first Cbindex) list);
+  cbgain = take 8 (drop (first Cbgain) list);
+  cbseed = slice_index list (first Cbseed);
 }

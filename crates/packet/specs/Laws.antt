@@ -6,19 +6,11 @@ use Rattle.packet.specs.declared.codes.CodeNumbers.{CodeNumbers}
 use Rattle.packet.specs.Bits.{bit_at, carried}
 use Rattle.packet.specs.Calls.{Holds, Lawful, packet}
 use Rattle.packet.specs.CheckBits.{RightPacket, pcb_of}
-use Rattle.packet.specs.Codes.{Within, row_of}
-
--- the codes of a frame are as many as their arrays hold, which every value of the program's type has
-pub record Sized (c : CodeNumbers) : Type 0 where
-  pub lsp : length c.lsp ≡ 10
-  pub plag : length c.plag ≡ 4
-  pub pgain : length c.pgain ≡ 4
-  pub cbindex : length c.cbindex ≡ 8
-  pub cbgain : length c.cbgain ≡ 8
+use Rattle.packet.specs.Codes.{Within, list_of}
 
 -- each place of a packet has the code bit that it carries, and 0 if it is spare; and its bytes are bytes
 pub record PacketBits (rate : Rate) (c : CodeNumbers) : Type 0 where
-  pub bits : (k : ℕ) → k < 8 * (rate_is rate).bytes → bit_at (packet rate c) k ≡ carried rate (row_of c (pcb_of rate c)) k
+  pub bits : (k : ℕ) → k < 8 * (rate_is rate).bytes → bit_at (packet rate c) k ≡ carried rate (list_of c (pcb_of rate c)) k
   pub bytes : (j : ℕ) → slice_index (packet rate c) j < 256
 
 abbrev pub EachBitOfAPacket : Type 0

@@ -13,11 +13,11 @@ CarriedBefore rate n s b = (k : ℕ) × ((c : CodeBit) × ((k < n) × ((at (layo
 
 -- the 36 codes that the first n places of a packet hold: each code bit that they carry is the packet's, and all other bits of
 -- the codes are zero
-pub record HoldsBits (rate : Rate) (n : ℕ) (packet row : List ℕ) : Type 0 where
-  pub size : length row ≡ 36
-  pub bits : (k : ℕ) (c : CodeBit) → k < n → at (layout rate) k ≡ Some c → value row (Some c) ≡ bit_at packet k
-  pub others : (s b : ℕ) → s < 36 → (CarriedBefore rate n s b → ⊥) → bit (slice_index row s) b ≡ 0
+pub record HoldsBits (rate : Rate) (n : ℕ) (packet list : List ℕ) : Type 0 where
+  pub size : length list ≡ 36
+  pub bits : (k : ℕ) (c : CodeBit) → k < n → at (layout rate) k ≡ Some c → value list (Some c) ≡ bit_at packet k
+  pub others : (s b : ℕ) → s < 36 → (CarriedBefore rate n s b → ⊥) → bit (slice_index list s) b ≡ 0
 
 -- the same; opaque, so that the reading of one place more is a law about it
 unfoldable pub ReadsTo : Rate → ℕ → List ℕ → List ℕ → Type 0
-ReadsTo rate n packet row = HoldsBits rate n packet row
+ReadsTo rate n packet list = HoldsBits rate n packet list

@@ -6,10 +6,10 @@ ghost use Rattle.packet.specs.Bits.{value};
 ghost use Rattle.packet.specs.CheckBits.{message_of, transmitted};
 
 use crate::kinds::code_bit_at;
-use crate::rows::Row;
+use crate::lists::CodeList;
 use cyclic::Message;
-use packet_layout::Code::{Cbgain, Lsp};
 use packet_layout::CodeBit;
+use packet_layout::CodeName::{Cbgain, Lsp};
 
 // The guarded code bits, from x^17 of a(x) down to x^0.
 const GUARDED: [CodeBit; 18] = [
@@ -39,13 +39,13 @@ const PCB_BITS: u32 = 11;
 // PCB[1] to PCB[10] are inverted for transmission, and PCB[0] is not.
 const INVERSION: u16 = 0b111_1111_1110;
 
-/// A code bit of the row.
-pub(crate) fn bit(row: &Row, c: CodeBit) -> u8
+/// A code bit of the list.
+pub(crate) fn bit(list: &CodeList, c: CodeBit) -> u8
     requires code { index c < 36 }
     requires number { c.2 < 16 }
-    ensures { result ≡ value row.now (Some c) }
+    ensures { result ≡ value list.now (Some c) }
 {
-    (row[c.index()] >> c.2 & 1) as u8
+    (list[c.index()] >> c.2 & 1) as u8
 }
 
 // The guarded code bit at x^(17 - i) of a(x); none past the last.
@@ -56,32 +56,32 @@ fn guarded_code_bit(i: usize) -> Option<CodeBit>
     code_bit_at(&GUARDED, i)
 }
 
-// What it is in the row, or 0 past the last.
+// What it is in the list, or 0 past the last.
 #[tactic(auto, using(crate::proofs::Messages::guarded_index, crate::proofs::Messages::guarded_number))]
-fn guarded_bit(row: &Row, i: usize) -> u8
-    ensures { result ≡ value row.now (slice_get guarded_code_bits i) }
+fn guarded_bit(list: &CodeList, i: usize) -> u8
+    ensures { result ≡ value list.now (slice_get guarded_code_bits i) }
 {
     match guarded_code_bit(i) {
         None => 0,
-        Some(c) => bit(row, c),
+        Some(c) => bit(list, c),
     }
 }
 
-// a(x) of the row.
+// a(x) of the list.
 #[tactic(auto, using(crate::proofs::Messages::guarded_none, crate::proofs::Messages::guarded_more, crate::proofs::Messages::guarded_lt, crate::proofs::Messages::message_is))]
-fn message(row: &Row) -> Message
-    ensures { result.bits ≡ message_of row.now }
+fn message(list: &CodeList) -> Message
+    ensures { result.bits ≡ message_of list.now }
 {
     let mut bits = 0;
     for i in 0..GUARDED.len() {
-        bits = bits * 2 + u32::from(guarded_bit(row, i));
+        bits = bits * 2 + u32::from(guarded_bit(list, i));
     }
     Message::new(bits).unwrap()
 }
 
 /// PCB of a Rate 1 packet as it is transmitted.
-pub(crate) fn check_bits(row: &Row) -> u16
-    ensures { result ≡ transmitted (message_of row.now) }
+pub(crate) fn check_bits(list: &CodeList) -> u16
+    ensures { result ≡ transmitted (message_of list.now) }
 {
-    (message(row).word().bits() % (1 << PCB_BITS)) as u16 ^ INVERSION
+    (message(list).word().bits() % (1 << PCB_BITS)) as u16 ^ INVERSION
 }

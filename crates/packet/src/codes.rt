@@ -2,16 +2,16 @@
 ghost use Rattle.std.specs.Prelude.{◌≡◌, ◌^◌, ◌++◌, ◌<◌, ◌≤◌, MatchBool, MatchResult, drop, length};
 ghost use Rattle.service.specs.Rates.{rate_is};
 ghost use Rattle.service.specs.Refusals.{refusal_is, refused};
-ghost use Rattle.packet_layout.specs.CodeBits.{bits_at};
+ghost use Rattle.packet_layout.specs.CodeBits.{Fits, bits_at};
 ghost use Rattle.packet.specs.Bits.{packet_of};
 ghost use Rattle.packet.specs.Reading.{ReadsTo};
 ghost use Rattle.packet.specs.Calls.{Holds, PacksCodes};
-ghost use Rattle.packet.specs.Codes.{Fits, Within};
+ghost use Rattle.packet.specs.Codes.{Within};
 
 use crate::kinds::{EighthPacket, FullPacket, HalfPacket, QuarterPacket};
+use crate::lists::{CodeList, from_list, packet_list};
 use crate::packing::{read, write};
-use crate::rows::{Row, from_row, packet_row};
-use packet_layout::Code;
+use packet_layout::CodeName;
 use service::{Category, Fault, Rate, Refusal};
 
 // What faults name in place of a record: a packet that stands alone has none.
@@ -80,8 +80,8 @@ impl Codes {
         if out.len() < bytes {
             return Err(Refusal::ShortBuffer);
         }
-        let row = packet_row(self.rate, &self.numbers);
-        write_at(self.rate, &row, bytes, out);
+        let list = packet_list(self.rate, &self.numbers);
+        write_at(self.rate, &list, bytes, out);
         Ok(bytes)
     }
 
@@ -98,22 +98,22 @@ impl Codes {
     }
 }
 
-// Writes the packet of the row at a rate.
-fn write_at(rate: Rate, row: &Row, bytes: usize, out: &mut [u8])
+// Writes the packet of the list at a rate.
+fn write_at(rate: Rate, list: &CodeList, bytes: usize, out: &mut [u8])
     requires kind { bytes ≡ (rate_is rate).bytes }
     requires room { bytes ≤ length out.old }
-    ensures { out.new ≡ packet_of rate row.now ++ drop bytes out.old }
+    ensures { out.new ≡ packet_of rate list.now ++ drop bytes out.old }
 {
     match rate {
-        Rate::Full => write::<FullPacket>(row, bytes, out),
-        Rate::Half => write::<HalfPacket>(row, bytes, out),
-        Rate::Quarter => write::<QuarterPacket>(row, bytes, out),
-        Rate::Eighth => write::<EighthPacket>(row, bytes, out),
+        Rate::Full => write::<FullPacket>(list, bytes, out),
+        Rate::Half => write::<HalfPacket>(list, bytes, out),
+        Rate::Quarter => write::<QuarterPacket>(list, bytes, out),
+        Rate::Eighth => write::<EighthPacket>(list, bytes, out),
     }
 }
 
-// The row that a packet holds at a rate.
-fn read_at(rate: Rate, packet: &[u8]) -> Row
+// The list that a packet holds at a rate.
+fn read_at(rate: Rate, packet: &[u8]) -> CodeList
     requires { length packet.now ≡ (rate_is rate).bytes }
     ensures { ReadsTo rate (rate_is rate).bits packet.now result }
 {
@@ -132,11 +132,11 @@ fn held(rate: Rate, packet: &[u8]) -> CodeNumbers
     requires { length packet.now ≡ (rate_is rate).bytes }
     ensures { Holds rate packet.now result }
 {
-    from_row(&read_at(rate, packet))
+    from_list(&read_at(rate, packet))
 }
 
 // How many bits the code of this name at an index has: none if the rate lacks it.
-fn bits_at(rate: Rate, name: Code, index: usize) -> u32
+fn bits_at(rate: Rate, name: CodeName, index: usize) -> u32
     ensures { result ≡ bits_at rate name index }
 {
     if index < name.count(rate) {
@@ -155,7 +155,7 @@ fn within(code: u8, bits: u32) -> bool
 }
 
 // Whether each code of a name is within its width.
-fn fit(rate: Rate, name: Code, codes: &[u8]) -> bool
+fn fit(rate: Rate, name: CodeName, codes: &[u8]) -> bool
     ensures { MatchBool result (Fits rate name codes.now) (Fits rate name codes.now → ⊥) }
 {
     codes
@@ -168,10 +168,10 @@ fn fit(rate: Rate, name: Code, codes: &[u8]) -> bool
 fn fit_all(rate: Rate, c: &CodeNumbers) -> bool
     ensures { MatchBool result (Within rate c.now) (Within rate c.now → ⊥) }
 {
-    fit(rate, Code::Lsp, &c.lsp)
-        && fit(rate, Code::Plag, &c.plag)
-        && fit(rate, Code::Pgain, &c.pgain)
-        && fit(rate, Code::Cbindex, &c.cbindex)
-        && fit(rate, Code::Cbgain, &c.cbgain)
-        && fit(rate, Code::Cbseed, &[c.cbseed])
+    fit(rate, CodeName::Lsp, &c.lsp)
+        && fit(rate, CodeName::Plag, &c.plag)
+        && fit(rate, CodeName::Pgain, &c.pgain)
+        && fit(rate, CodeName::Cbindex, &c.cbindex)
+        && fit(rate, CodeName::Cbgain, &c.cbgain)
+        && fit(rate, CodeName::Cbseed, &[c.cbseed])
 }

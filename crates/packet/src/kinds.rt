@@ -7,8 +7,8 @@ ghost use Rattle.packet_layout.specs.Layouts.{at, layout};
 ghost use Rattle.packet_layout.specs.Laws.{EachCodeBitOnce};
 ghost use Rattle.packet_layout.proofs.Laws.{full, half, quarter, eighth};
 
-use packet_layout::Code::{Cbgain, Cbindex, Cbseed, Lsp, Pcb, Pgain, Plag};
 use packet_layout::CodeBit;
+use packet_layout::CodeName::{Cbgain, Cbindex, Cbseed, Lsp, Pcb, Pgain, Plag};
 
 /// A kind of packet: which code bit each of its bits carries.
 pub(crate) trait PacketKind {

@@ -9,8 +9,8 @@ mod check_bits;
 mod codes;
 mod kinds;
 mod laws;
+mod lists;
 mod packing;
-mod rows;
 
 pub use codes::{CodeNumbers, Codes};
 pub use laws::{

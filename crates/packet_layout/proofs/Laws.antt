@@ -2,7 +2,7 @@
 use Rattle.std.proofs.Common.{◌≡◌, ℕ, zero, suc, ◌-◌, ◌<◌, slice_index, slice_get, Some, inl, inr, arith, refl, subst}
 use Rattle.std.proofs.lemmas.Bool.{cases_lt}
 use Rattle.service.specs.declared.rates.Rate.TheVariants.{Full, Half, Quarter, Eighth}
-use Rattle.packet_layout.specs.declared.code_bits.Code.TheVariants.{Lsp, Cbgain, Pcb}
+use Rattle.packet_layout.specs.declared.code_bits.CodeName.TheVariants.{Lsp, Cbgain, Pcb}
 use Rattle.packet_layout.specs.declared.code_bits.CodeBit.{CodeBit}
 use Rattle.packet_layout.specs.CodeBits.{Has, code_bit, index}
 use Rattle.packet_layout.specs.Layouts.{at, layout}

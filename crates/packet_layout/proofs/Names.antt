@@ -2,13 +2,13 @@
 use Rattle.std.proofs.Common.{◌≡◌, ℕ, ◌+◌, ◌-◌, ◌<◌, ◌≤◌, cond, refl, sym, ◌∙◌, ap, arith, nat_lt}
 use Rattle.service.specs.declared.rates.Rate.{Rate}
 use Rattle.service.specs.declared.rates.Rate.TheVariants.{Full, Half, Quarter, Eighth}
-use Rattle.packet_layout.specs.declared.code_bits.Code.{Code}
-use Rattle.packet_layout.specs.declared.code_bits.Code.TheVariants.{Lsp, Plag, Pgain, Cbindex, Cbgain, Cbseed, Pcb}
+use Rattle.packet_layout.specs.declared.code_bits.CodeName.{CodeName}
+use Rattle.packet_layout.specs.declared.code_bits.CodeName.TheVariants.{Lsp, Plag, Pgain, Cbindex, Cbgain, Cbseed, Pcb}
 use Rattle.packet_layout.specs.declared.code_bits.CodeBit.{CodeBit}
 use Rattle.packet_layout.specs.CodeBits.{code_bit, count, width, first, index, Has}
 
 -- how many codes of a name there are at the rate that has most
-abbrev pub most : Code → ℕ
+abbrev pub most : CodeName → ℕ
 most Lsp = 10
 most Plag = 4
 most Pgain = 4
@@ -17,7 +17,7 @@ most Cbgain = 8
 most Cbseed = 1
 most Pcb = 1
 
-pub count_most : (rate : Rate) (name : Code) → count rate name ≤ most name
+pub count_most : (rate : Rate) (name : CodeName) → count rate name ≤ most name
 count_most rate Lsp = omega arith
 count_most Full Plag = omega arith
 count_most Half Plag = omega arith
@@ -50,7 +50,7 @@ code_at s b =
     (cond (nat_lt s 26) (code_bit Cbindex (s - 17) b) (cond (nat_lt s 34) (code_bit Cbgain (s - 25) b)
     (cond (nat_lt s 35) (code_bit Cbseed 1 b) (code_bit Pcb 1 b))))))
 
-pub named : (name : Code) (n b : ℕ) → 1 ≤ n → n ≤ most name → code_at (first name + n - 1) b ≡ code_bit name n b
+pub named : (name : CodeName) (n b : ℕ) → 1 ≤ n → n ≤ most name → code_at (first name + n - 1) b ≡ code_bit name n b
 named Lsp n b h l = grind (arith)
 named Plag n b h l = grind (arith)
 named Pgain n b h l = grind (arith)
@@ -67,7 +67,7 @@ pub same : (rate : Rate) (c d : CodeBit) → Has rate c → Has rate d → index
 same rate c d hc hd ei eb = sym (back rate c hc) ∙ ap (λ s. code_at s c.2) ei ∙ ap (λ b. code_at (index d) b) eb ∙ back rate d hd
 
 -- each code of a rate is one of the 36
-pub below : (name : Code) (n : ℕ) → n ≤ most name → first name + n - 1 < 36
+pub below : (name : CodeName) (n : ℕ) → n ≤ most name → first name + n - 1 < 36
 below Lsp n l = omega arith
 below Plag n l = omega arith
 below Pgain n l = omega arith
@@ -79,7 +79,7 @@ below Pcb n l = omega arith
 pub index_lt : (rate : Rate) (c : CodeBit) → Has rate c → index c < 36
 index_lt rate c h = below c.0 c.1 (omega (arith, h.to, count_most rate c.0))
 
-narrow : (rate : Rate) (name : Code) → width rate name ≤ 11
+narrow : (rate : Rate) (name : CodeName) → width rate name ≤ 11
 narrow Full Lsp = omega arith
 narrow Half Lsp = omega arith
 narrow Quarter Lsp = omega arith
@@ -95,7 +95,7 @@ narrow rate Cbseed = omega arith
 narrow rate Pcb = omega arith
 
 -- and one of the 35 if it is not PCB
-below_pcb : (name : Code) (n : ℕ) → (name ≡ Pcb → ⊥) → n ≤ most name → first name + n - 1 < 35
+below_pcb : (name : CodeName) (n : ℕ) → (name ≡ Pcb → ⊥) → n ≤ most name → first name + n - 1 < 35
 below_pcb Lsp n other l = omega arith
 below_pcb Plag n other l = omega arith
 below_pcb Pgain n other l = omega arith
@@ -112,7 +112,7 @@ pub bit_lt : (rate : Rate) (c : CodeBit) → Has rate c → c.2 < 11
 bit_lt rate c h = omega (arith, h.bit, narrow rate c.0)
 
 -- and, but for PCB, none above 6
-narrower : (rate : Rate) (name : Code) (n : ℕ) → 1 ≤ n → first name + n - 1 < 35 → width rate name ≤ 7
+narrower : (rate : Rate) (name : CodeName) (n : ℕ) → 1 ≤ n → first name + n - 1 < 35 → width rate name ≤ 7
 narrower Full Lsp n f l = omega arith
 narrower Half Lsp n f l = omega arith
 narrower Quarter Lsp n f l = omega arith
@@ -131,7 +131,7 @@ pub bit_lt_code : (rate : Rate) (c : CodeBit) → Has rate c → index c < 35 �
 bit_lt_code rate c h l = omega (arith, h.bit, narrower rate c.0 c.1 h.from l)
 
 -- the last of the 36 is PCB
-last : (name : Code) (n b : ℕ) → 1 ≤ n → n ≤ most name → 35 ≤ first name + n - 1 → code_bit name n b ≡ code_bit Pcb 1 b
+last : (name : CodeName) (n b : ℕ) → 1 ≤ n → n ≤ most name → 35 ≤ first name + n - 1 → code_bit name n b ≡ code_bit Pcb 1 b
 last Lsp n b f l h = absurd (omega arith)
 last Plag n b f l h = absurd (omega arith)
 last Pgain n b f l h = absurd (omega arith)

@@ -4,8 +4,8 @@ use Rattle.std.proofs.lemmas.Bool.{and_parts, or_cases, or_left, or_right, cases
 use Rattle.std.proofs.lemmas.Bool.Decides.{nat_tests}
 use Rattle.service.specs.declared.rates.Rate.{Rate}
 use Rattle.service.specs.Rates.{rate_is}
-use Rattle.packet_layout.specs.declared.code_bits.Code.{Code}
-use Rattle.packet_layout.specs.declared.code_bits.Code.TheVariants.{Lsp, Plag, Pgain, Cbindex, Cbgain, Cbseed, Pcb}
+use Rattle.packet_layout.specs.declared.code_bits.CodeName.{CodeName}
+use Rattle.packet_layout.specs.declared.code_bits.CodeName.TheVariants.{Lsp, Plag, Pgain, Cbindex, Cbgain, Cbseed, Pcb}
 use Rattle.packet_layout.specs.declared.code_bits.CodeBit.{CodeBit}
 use Rattle.packet_layout.specs.CodeBits.{count, width, first, index, Has}
 use Rattle.packet_layout.specs.Layouts.{at}
@@ -114,7 +114,7 @@ all_have rate (d ∷ cs) t (suc k) c e = all_have rate cs (and_parts (has rate d
 -- ---- the law, from the tests
 
 -- the codes of a name with all their bits
-abbrev name_stands : Rate → List CodeBit → Code → Bool
+abbrev name_stands : Rate → List CodeBit → CodeName → Bool
 name_stands rate places name = codes_stand (first name) (count rate name) (width rate name) places
 
 -- whether all code bits of the rate stand
@@ -123,7 +123,7 @@ all_stand rate places =
     name_stands rate places Lsp && (name_stands rate places Plag && (name_stands rate places Pgain && (name_stands rate places Cbindex
     && (name_stands rate places Cbgain && (name_stands rate places Cbseed && name_stands rate places Pcb)))))
 
-each_stands : (rate : Rate) (places : List CodeBit) → all_stand rate places ≡ true → (name : Code) → name_stands rate places name ≡ true
+each_stands : (rate : Rate) (places : List CodeBit) → all_stand rate places ≡ true → (name : CodeName) → name_stands rate places name ≡ true
 each_stands rate places t name =
     let a = and_parts _ _ t in
     let b = and_parts _ _ a.1 in

@@ -1,7 +1,7 @@
 -- The 29 guarded bits of a Rate 1 packet (IS-96, A.1.4.7.1.1), in the order of a word: from x^27 of the 28 bits of the cyclic
 -- code down to x^0, and the overall parity bit. Assumes nothing.
 use Rattle.std.specs.Prelude.{ℕ, ◌-◌, ◌*◌, List, [], ◌∷◌, ◌++◌, map}
-use Rattle.packet_layout.specs.declared.code_bits.Code.TheVariants.{Lsp, Cbgain, Pcb}
+use Rattle.packet_layout.specs.declared.code_bits.CodeName.TheVariants.{Lsp, Cbgain, Pcb}
 use Rattle.packet_layout.specs.declared.code_bits.CodeBit.{CodeBit}
 use Rattle.packet_layout.specs.CodeBits.{code_bit, one_to_eight, one_to_ten}
 

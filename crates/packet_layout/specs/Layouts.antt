@@ -3,13 +3,13 @@ use Rattle.std.specs.Prelude.{ℕ, zero, suc, List, [], ◌∷◌, ◌++◌, map
 use Rattle.std.specs.List.{flat_map}
 use Rattle.service.specs.declared.rates.Rate.{Rate}
 use Rattle.service.specs.declared.rates.Rate.TheVariants.{Full, Half, Quarter, Eighth}
-use Rattle.packet_layout.specs.declared.code_bits.Code.{Code}
-use Rattle.packet_layout.specs.declared.code_bits.Code.TheVariants.{Lsp, Plag, Pgain, Cbindex, Cbgain, Cbseed, Pcb}
+use Rattle.packet_layout.specs.declared.code_bits.CodeName.{CodeName}
+use Rattle.packet_layout.specs.declared.code_bits.CodeName.TheVariants.{Lsp, Plag, Pgain, Cbindex, Cbgain, Cbseed, Pcb}
 use Rattle.packet_layout.specs.declared.code_bits.CodeBit.{CodeBit}
 use Rattle.packet_layout.specs.CodeBits.{code_bit, one_to_eight, one_to_ten}
 
 -- the lowest w bits of a code, the highest first
-unfoldable pub bits_of : Code → ℕ → ℕ → List CodeBit
+unfoldable pub bits_of : CodeName → ℕ → ℕ → List CodeBit
 bits_of name n zero = []
 bits_of name n (suc w) = code_bit name n w ∷ bits_of name n w
 
@@ -18,27 +18,30 @@ unfoldable pub lsps : ℕ → List CodeBit
 unfolding bits_of
 lsps w = flat_map (λ i. bits_of Lsp i w) one_to_ten
 
--- the codes of a pitch subframe, and of a codebook subframe
+-- the codes of a pitch subframe
 unfoldable pub pitch : ℕ → List CodeBit
 unfolding bits_of
 pitch n = bits_of Pgain n 3 ++ bits_of Plag n 7
 
+-- the codes of a codebook subframe
 unfoldable pub codebook : ℕ → List CodeBit
 unfolding bits_of
 codebook n = bits_of Cbindex n 7 ++ bits_of Cbgain n 3
 
--- At Rate 1 the upper halves of the ten LSP codes come first, and each bit 3 behind its bit 2; then the lower halves.
+-- At Rate 1 the upper halves of the ten LSP codes come first, each bit 3 behind its bit 2.
 unfoldable pub upper_halves : List CodeBit
 upper_halves = flat_map (λ i. code_bit Lsp i 2 ∷ code_bit Lsp i 3 ∷ []) one_to_ten
 
+-- their lower halves
 unfoldable pub lower_halves : List CodeBit
 lower_halves = flat_map (λ i. code_bit Lsp i 1 ∷ code_bit Lsp i 0 ∷ []) one_to_ten
 
--- a codebook subframe at Rate 1 without CBGAIN[1], which is guarded and stands elsewhere; and two of them, from number n
+-- a codebook subframe at Rate 1 without CBGAIN[1], which is guarded and stands elsewhere
 unfoldable pub codebook_without_1 : ℕ → List CodeBit
 unfolding bits_of
 codebook_without_1 n = bits_of Cbindex n 7 ++ (code_bit Cbgain n 2 ∷ code_bit Cbgain n 0 ∷ [])
 
+-- two of them, numbers n and n + 1
 unfoldable pub two_codebooks : ℕ → List CodeBit
 unfolding codebook_without_1
 two_codebooks n = codebook_without_1 n ++ codebook_without_1 (suc n)

@@ -1,12 +1,11 @@
-//! The codes of a frame, and which bit of them each bit of a packet carries (IS-96, A.1.4.7). The packet kinds of the crate
-//! `packet` are tables that are proved to be these layouts.
+//! The codes of a frame, and which bit of them each bit of a packet carries (IS-96, A.1.4.7).
 #![tactic(auto)]
 
 ghost use Rattle.packet_layout.specs.Laws.{EachCodeBitOnceAtEachRate, GuardedPlaces};
 
 mod code_bits;
 
-pub use code_bits::{Code, CodeBit};
+pub use code_bits::{CodeBit, CodeName};
 
 /// Carries a theorem: at each rate, each code bit, check bits too, stands at exactly one place of the packet, and each bit of
 /// the packet carries one.

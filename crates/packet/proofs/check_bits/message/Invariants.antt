@@ -4,4 +4,4 @@ use Rattle.packet.proofs.check_bits.message.Given as goal
 
 -- the bits so far
 abbrev pub invariant-loop-i : goal.invariant-loop-i
-invariant-loop-i l = l.bits ≡ first_guarded l.row l.i
+invariant-loop-i l = l.bits ≡ first_guarded l.list l.i

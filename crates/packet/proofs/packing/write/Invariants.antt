@@ -4,4 +4,4 @@ use Rattle.packet.proofs.packing.write.Given as goal
 
 -- the bytes so far are written
 abbrev pub invariant-loop-index : goal.invariant-loop-index
-invariant-loop-index g l = l.out ≡ filled g.K.PacketKind.rate l.row l.fn.out l.index
+invariant-loop-index g l = l.out ≡ filled g.K.PacketKind.rate l.list l.fn.out l.index
