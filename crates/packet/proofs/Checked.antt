@@ -132,7 +132,7 @@ module _ (c : CodeNumbers) (size : Sized c) where
       packed_guarded (18 + i) (omega arith) ∙ ap (value (full_list c)) at_i ∙ ap (λ n. bit n j) (list_pcb c (transmitted (message_of_codes c)) size))
       ∙ number_again (transmitted (message_of_codes c)) 11 pcb_lt
 
-  packed_word : Holds Full (packet Full c) c → word_of (packet Full c) ≡ sent (message_of_codes c)
+  pub packed_word : Holds Full (packet Full c) c → word_of (packet Full c) ≡ sent (message_of_codes c)
   packed_word holds =
       let sent_m : sent (message_of_codes c) / 2 ^ 11 ≡ message_of_codes c = (sent_right (message_of_codes c)).1 in
       word_is (packet Full c)

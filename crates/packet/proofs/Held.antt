@@ -1,7 +1,7 @@
 -- The codes that a packet holds, from the list that was read.
-use Rattle.std.proofs.Common.{◌≡◌, ◌≢◌, ℕ, ◌+◌, ◌-◌, ◌^◌, ◌<◌, ◌≤◌, nat_lt, List, [], ◌∷◌, take, drop, Some, slice_index, refl, sym, ◌∙◌, ap, subst, arith}
+use Rattle.std.proofs.Common.{◌≡◌, ◌≢◌, ℕ, zero, suc, ◌+◌, ◌-◌, ◌^◌, ◌<◌, ◌≤◌, nat_lt, List, [], ◌∷◌, length, replicate, take, drop, Option, Some, None, slice_index, refl, sym, ◌∙◌, ap, subst, arith, add-one}
 use Rattle.std.proofs.lemmas.Bool.{cond-true, lt-ltb}
-use Rattle.std.proofs.lemmas.List.{get_or-drop, get_or-take, length-take}
+use Rattle.std.proofs.lemmas.List.{get_or-drop, get_or-take, length-drop, length-take}
 use Rattle.service.specs.declared.rates.Rate.{Rate}
 use Rattle.service.specs.Rates.{rate_is}
 use Rattle.packet_layout.specs.declared.code_bits.CodeName.{CodeName}
@@ -12,10 +12,12 @@ use Rattle.packet_layout.specs.Layouts.{at, layout}
 use Rattle.packet_layout.proofs.Laws.{at_each_rate}
 use Rattle.packet_layout.proofs.Names.{back, below, bit_lt_code, code_at, index_lt_pcb, most, named}
 use Rattle.packet_layout.proofs.Once.{place_lt}
+use Rattle.packet.specs.declared.codes.CodeNumbers.{CodeNumbers}
+use Rattle.packet.proofs.Reading.{holds_bit, holds_none, holds_spare, marked}
 use Rattle.packet.specs.Bits.{bit, bit_at, value}
 use Rattle.packet.specs.Reading.{CarriedBefore, HoldsBits, ReadsTo}
 use Rattle.packet.specs.Calls.{Holds}
-use Rattle.packet.specs.Codes.{Within, in_order, numbers_of}
+use Rattle.packet.specs.Codes.{Sized, Within, in_order, numbers_of}
 use Rattle.packet_layout.specs.CodeBits.{Fits}
 use Rattle.packet.proofs.Fields.{list_again}
 use Rattle.packet.proofs.Numbers.{width_of}
@@ -50,8 +52,21 @@ module _ (rate : Rate) (packet list : List ℕ) (r : HoldsBits rate (rate_is rat
   seed_fits : Fits rate Cbseed (slice_index list (first Cbseed) ∷ [])
   seed_fits i h = let z : 0 ≡ i = omega arith in subst (λ j. slice_index (slice_index list (first Cbseed) ∷ []) j < 2 ^ bits_at rate Cbseed j) z (read_fits Cbseed 0 (omega arith))
 
+  part_length : (from n : ℕ) → from + n ≤ 36 → length (take n (drop from list)) ≡ n
+  part_length from n h = omega (arith, length-take n (drop from list), length-drop from list, r.size)
+
+  read_sized : Sized (numbers_of list)
+  read_sized = record {
+    lsp = part_length 0 10 (omega arith);
+    plag = part_length 10 4 (omega arith);
+    pgain = part_length 14 4 (omega arith);
+    cbindex = part_length 18 8 (omega arith);
+    cbgain = part_length 26 8 (omega arith);
+  }
+
   read_within : Within rate (numbers_of list)
   read_within = record {
+    sized = read_sized;
     lsp = part_fits Lsp;
     plag = part_fits Plag;
     pgain = part_fits Pgain;
@@ -80,3 +95,22 @@ read_narrow rate packet list r s h =
     width_of (slice_index list s) 8
     (λ b above. r.others s b (omega arith)
     (λ (k, (c, (less, (e, (ei, eb))))). omega (arith, bit_lt_code rate c ((at_each_rate rate).carried k c e) (omega arith))))
+
+-- ---- each packet holds a record: what is read of it, place by place
+
+read_more : (rate : Rate) (packet list : List ℕ) (n : ℕ) → HoldsBits rate n packet list → (o : Option CodeBit) → at (layout rate) n ≡ o
+    → (next : List ℕ) × HoldsBits rate (n + 1) packet next
+read_more rate packet list n r None e = (list, holds_spare (at_each_rate rate) packet list n e r)
+read_more rate packet list n r (Some c) e = (marked list c (bit_at packet n), holds_bit (at_each_rate rate) packet list n c e r)
+
+read_some : (rate : Rate) (packet : List ℕ) (n : ℕ) → (list : List ℕ) × HoldsBits rate n packet list
+read_some rate packet zero = (replicate 36 0, holds_none (at_each_rate rate) packet)
+read_some rate packet (suc n) =
+    let (list, r) = read_some rate packet n in
+    let (next, held) = read_more rate packet list n r (at (layout rate) n) refl in
+    (next, subst (λ m. HoldsBits rate m packet next) (add-one n) held)
+
+pub some_record : (rate : Rate) (bytes : List ℕ) → (c : CodeNumbers) × Holds rate bytes c
+some_record rate bytes =
+    let (list, r) = read_some rate bytes (rate_is rate).bits in
+    (numbers_of list, record { within = read_within rate bytes list r; bits = read_bits rate bytes list r })

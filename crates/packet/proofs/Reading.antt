@@ -15,7 +15,7 @@ use Rattle.packet.specs.Reading.{CarriedBefore, HoldsBits, ReadsTo}
 use Rattle.packet.proofs.Numbers.{bit_lt, bit_of_or, bit_of_zero, shifted_here, shifted_elsewhere}
 
 -- the list with a bit set at a code bit
-abbrev marked : List ℕ → CodeBit → ℕ → List ℕ
+abbrev pub marked : List ℕ → CodeBit → ℕ → List ℕ
 marked list c x = slice_set list (index c) (bit_or (slice_index list (index c)) (x * 2 ^ c.2))
 
 module _ (list : List ℕ) (c : CodeBit) (x : ℕ) (h : index c < length list) (hx : x < 2) where
@@ -41,7 +41,7 @@ before_more : (rate : Rate) (n s b : ℕ) → CarriedBefore rate n s b → Carri
 before_more rate n s b (k, (c, (less, rest))) = (k, (c, (omega arith, rest)))
 
 module _ {rate : Rate} (law : EachCodeBitOnce rate (layout rate)) (packet : List ℕ) where
-  holds_none : HoldsBits rate 0 packet (replicate 36 0)
+  pub holds_none : HoldsBits rate 0 packet (replicate 36 0)
   holds_none = record {
     size = refl;
     bits = λ k c less e. absurd (omega arith);
@@ -49,7 +49,7 @@ module _ {rate : Rate} (law : EachCodeBitOnce rate (layout rate)) (packet : List
   }
 
   -- a place that carries nothing
-  holds_spare : (list : List ℕ) (n : ℕ) → at (layout rate) n ≡ None → HoldsBits rate n packet list → HoldsBits rate (n + 1) packet list
+  pub holds_spare : (list : List ℕ) (n : ℕ) → at (layout rate) n ≡ None → HoldsBits rate n packet list → HoldsBits rate (n + 1) packet list
   holds_spare list n e r = record {
     size = r.size;
     bits = λ k c less at_k. elim (cases_eq k n) [
@@ -60,7 +60,7 @@ module _ {rate : Rate} (law : EachCodeBitOnce rate (layout rate)) (packet : List
   }
 
   -- a place that carries a code bit
-  holds_bit : (list : List ℕ) (n : ℕ) (c : CodeBit) → at (layout rate) n ≡ Some c → HoldsBits rate n packet list
+  pub holds_bit : (list : List ℕ) (n : ℕ) (c : CodeBit) → at (layout rate) n ≡ Some c → HoldsBits rate n packet list
       → HoldsBits rate (n + 1) packet (marked list c (bit_at packet n))
   holds_bit list n c e r =
       let x = bit_at packet n in

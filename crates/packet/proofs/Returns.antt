@@ -18,10 +18,11 @@ use Rattle.packet.specs.Bits.{bit, bit_at, value}
 use Rattle.packet.specs.Calls.{Holds, packet}
 use Rattle.packet.specs.CheckBits.{pcb_of}
 use Rattle.packet.specs.Codes.{in_order, list_of}
-use Rattle.packet.specs.Laws.{OneRecord}
+use Rattle.packet.specs.Laws.{OneRecordInEachPacket}
 use Rattle.packet.specs.Codes.{Sized}
 use Rattle.packet.proofs.Arrays.{all_fit, at_name, codes_length, codes_of, in_order_length, same_codes}
 use Rattle.packet.proofs.Carried.{carried_some}
+use Rattle.packet.proofs.Held.{some_record}
 use Rattle.packet.proofs.Numbers.{same_bits}
 use Rattle.packet.proofs.Packets.{packet_bit}
 
@@ -55,7 +56,7 @@ packet_holds rate c size k b e other =
     let list = list_of c (pcb_of rate c) in
     sym (packet_bit rate list k (omega (arith, place_lt (layout rate) k b e, law.bits, room rate)) ∙ carried_some rate list k b e ∙ value_of_codes rate c (pcb_of rate c) size b (law.carried k b e) other)
 
-module _ (rate : Rate) (bytes : List ℕ) (c d : CodeNumbers) (c-size : Sized c) (d-size : Sized d) (c-holds : Holds rate bytes c) (d-holds : Holds rate bytes d) where
+module _ (rate : Rate) (bytes : List ℕ) (c d : CodeNumbers) (c-holds : Holds rate bytes c) (d-holds : Holds rate bytes d) where
   same_bit : (name : CodeName) (i b : ℕ) → name ≢ Pcb → i < most name → b < bits_at rate name i → bit (slice_index (codes_of name d) i) b ≡ bit (slice_index (codes_of name c) i) b
   same_bit name i b other h hb =
       let cb = code_bit name (i + 1) b in
@@ -63,14 +64,14 @@ module _ (rate : Rate) (bytes : List ℕ) (c d : CodeNumbers) (c-size : Sized c)
       let (k, e, one) = (at_each_rate rate).once cb has in
       let at_i : index cb ≡ first name + i = omega arith in
       let both : value (in_order d) (Some cb) ≡ value (in_order c) (Some cb) = d-holds.bits k cb e other ∙ sym (c-holds.bits k cb e other) in
-      ap (λ n. bit n b) (sym (ap (slice_index (in_order d)) at_i ∙ at_name d d-size name i other h))
+      ap (λ n. bit n b) (sym (ap (slice_index (in_order d)) at_i ∙ at_name d d-holds.within.sized name i other h))
       ∙ both
-      ∙ ap (λ n. bit n b) (ap (slice_index (in_order c)) at_i ∙ at_name c c-size name i other h)
+      ∙ ap (λ n. bit n b) (ap (slice_index (in_order c)) at_i ∙ at_name c c-holds.within.sized name i other h)
 
   same_name : (name : CodeName) → name ≢ Pcb → codes_of name d ≡ codes_of name c
   same_name name other =
-      let long-d = codes_length d d-size name other in
-      let long-c = codes_length c c-size name other in
+      let long-d = codes_length d d-holds.within.sized name other in
+      let long-c = codes_length c c-holds.within.sized name other in
       ext_get_or 0 (codes_of name d) (codes_of name c) (long-d ∙ sym long-c)
       (λ i h.
       same_bits (bits_at rate name i) (slice_index (codes_of name d) i) (slice_index (codes_of name c) i)
@@ -80,5 +81,5 @@ module _ (rate : Rate) (bytes : List ℕ) (c d : CodeNumbers) (c-size : Sized c)
   pub same : d ≡ c
   same = same_codes d c same_name
 
-pub one_record : OneRecord
-one_record rate bytes c d c-size d-size c-holds d-holds = same rate bytes d c d-size c-size d-holds c-holds
+pub one_record : OneRecordInEachPacket
+one_record rate bytes = record { some = some_record rate bytes; only = λ c d c-holds d-holds. same rate bytes d c d-holds c-holds }

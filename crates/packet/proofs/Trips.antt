@@ -1,6 +1,6 @@
 -- Packing and unpacking undo one another.
-use Rattle.std.proofs.Common.{◌≡◌, ◌≢◌, ℕ, zero, suc, ◌+◌, ◌-◌, ◌*◌, ◌/◌, ◌%◌, ◌<◌, ◌≤◌, false, not, ◌==◌, List, Some, Option, None, slice_index, inl, inr, refl, sym, ◌∙◌, ap, arith}
-use Rattle.std.proofs.lemmas.Bool.{cases_lt}
+use Rattle.std.proofs.Common.{◌≡◌, ◌≢◌, ℕ, zero, suc, ◌+◌, ◌-◌, ◌*◌, ◌/◌, ◌%◌, ◌<◌, ◌≤◌, false, not, ◌==◌, List, Some, Option, None, slice_index, inl, inr, refl, sym, ◌∙◌, ap, arith, Result, MatchResult, Ok, Err, false}
+use Rattle.std.proofs.lemmas.Bool.{cases_lt, false≢true}
 use Rattle.std.proofs.lemmas.Bool.Decides.{nat_tests}
 use Rattle.std.proofs.lemmas.List.{ext_get_or}
 use Rattle.service.specs.declared.rates.Rate.{Rate}
@@ -20,10 +20,13 @@ use Rattle.packet.specs.Bits.{bit, bit_at, byte_of, value}
 use Rattle.packet.specs.Calls.{Holds, Lawful, packet}
 use Rattle.packet.specs.CheckBits.{RightPacket, pcb_of}
 use Rattle.packet.specs.Codes.{list_of}
-use Rattle.packet.specs.Laws.{PackingReturnsThePacket, UnpackingReturnsTheCodes}
+use Rattle.packet.specs.Unpacking.{UnpacksCodes}
+use Rattle.service.specs.declared.refusals.Fault.{Fault}
+use Rattle.packet.specs.declared.codes.Codes.{Codes}
+use Rattle.packet.specs.Laws.{GuardedWord, PackingReturnsThePacket, UnpackingReturnsTheCodes}
 use Rattle.packet.specs.Codes.{Sized}
 use Rattle.packet.proofs.Carried.{carried_is}
-use Rattle.packet.proofs.Checked.{right_packet, right_pcb, list_pcb}
+use Rattle.packet.proofs.Checked.{list_pcb, message_is, packed_word, right_packet, right_pcb, word_lt, word_message}
 use Rattle.packet.proofs.Numbers.{same_bits}
 use Rattle.packet.proofs.Packets.{byte_at, byte_bit, byte_lt, packet_length}
 use Rattle.packet.proofs.Returns.{packet_holds, same, value_of_codes}
@@ -96,7 +99,7 @@ module _ (rate : Rate) (bytes : List ℕ) (c : CodeNumbers) (size : Sized c) (ho
       ∙ ap (λ i. bit (slice_index bytes i) (7 - k % 8)) j-of-k ∙ ap (bit (slice_index bytes j)) b-of-k))
 
 pub packing_returns : PackingReturnsThePacket
-packing_returns rate bytes c small lawful right size holds = packed_again rate bytes c size holds lawful right small
+packing_returns rate bytes c small lawful right holds = packed_again rate bytes c holds.within.sized holds lawful right small
 
 -- ---- the packet of codes of a rate
 
@@ -117,12 +120,28 @@ packed_spare Half c = zero_unset (slice_index (packet Half c) 9 % 1) (omega arit
 packed_spare Quarter c = zero_unset (slice_index (packet Quarter c) 4 % 1) (omega arith)
 packed_spare Eighth c = zero_unset (slice_index (packet Eighth c) 1 % 1) (omega arith)
 
+-- unpacking the packet of codes answers these
+unpacked : (rate : Rate) (c : CodeNumbers) → Lawful rate (packet rate c) → Holds rate (packet rate c) c → (r : Result Codes Fault) → UnpacksCodes rate (packet rate c) r
+    → MatchResult r (λ d. (d.rate ≡ rate) × (d.numbers ≡ c)) (λ _. ⊥)
+unpacked rate c lawful holds (Ok d) (e, l, h) = (e, same rate (packet rate c) c d.numbers holds h)
+unpacked rate c lawful holds (Err e) (inl (a, long)) = long lawful.length
+unpacked rate c lawful holds (Err e) (inr (a, long, set)) = false≢true (sym lawful.spare ∙ set)
+
 pub unpacking_returns : UnpackingReturnsTheCodes
-unpacking_returns rate c size within =
-    let holds : Holds rate (packet rate c) c = record { within = within; bits = packet_holds rate c size } in
+unpacking_returns rate c within =
+    let holds : Holds rate (packet rate c) c = record { within = within; bits = packet_holds rate c within.sized } in
+    let lawful : Lawful rate (packet rate c) = record { length = packet_length rate (list_of c (pcb_of rate c)); spare = packed_spare rate c } in
     record {
-      lawful = record { length = packet_length rate (list_of c (pcb_of rate c)); spare = packed_spare rate c };
-      right = right_packet rate c size holds;
+      lawful = lawful;
+      right = right_packet rate c within.sized holds;
       holds = holds;
-      only = λ d d-size d-holds. same rate (packet rate c) c d size d-size holds d-holds;
+      only = λ d d-holds. same rate (packet rate c) c d holds d-holds;
+      answer = unpacked rate c lawful holds;
     }
+
+pub guarded_word : GuardedWord
+guarded_word = record {
+  bits = word_lt;
+  message = λ bytes c holds. word_message bytes ∙ message_is bytes c holds.within.sized holds;
+  sent = λ c within. packed_word c within.sized (record { within = within; bits = packet_holds Full c within.sized });
+}

@@ -31,14 +31,14 @@ PacksCodes rate c before after r =
     (λ e. (after ≡ before) × ((refusal_is e ≡ refused 16) × (length before < (rate_is rate).bytes)))
 
 -- these are no codes: the number names no rate, a code is too wide, or the rate lacks a code that is not zero
-abbrev pub NoCodes : ℕ → CodeNumbers → Type 0
-NoCodes number c = (rate : Rate) → (rate_is rate).number ≡ number → Within rate c → ⊥
+abbrev pub AreNotCodes : ℕ → CodeNumbers → Type 0
+AreNotCodes number c = (rate : Rate) → (rate_is rate).number ≡ number → Within rate c → ⊥
 
 -- what packing plain code numbers answers: refusal 17 exactly if they are no codes, whatever the buffer
 abbrev pub Packs : ℕ → CodeNumbers → List ℕ → List ℕ → Result ℕ Refusal → Type 0
 Packs number c before after r =
     ((rate : Rate) × ((rate_is rate).number ≡ number) × Within rate c × PacksCodes rate c before after r)
-    ⊎ (NoCodes number c × (after ≡ before) × MatchResult r (λ _. ⊥) (λ e. refusal_is e ≡ refused 17))
+    ⊎ (AreNotCodes number c × (after ≡ before) × MatchResult r (λ _. ⊥) (λ e. refusal_is e ≡ refused 17))
 
 -- the codes that a packet holds: each within its width, and each code bit that the packet carries is the packet's; check
 -- bits are not looked at
@@ -46,7 +46,7 @@ pub record Holds (rate : Rate) (packet : List ℕ) (c : CodeNumbers) : Type 0 wh
   pub within : Within rate c
   pub bits : (k : ℕ) (b : CodeBit) → at (layout rate) k ≡ Some b → b.0 ≢ Pcb → value (in_order c) (Some b) ≡ bit_at packet k
 
--- the packet has the length of its rate, and its spare bits are zero
+-- the packet has the length of its rate, and its spare bits are zero; the number of a rate is that of the category of its packets
 pub record Lawful (rate : Rate) (bytes : List ℕ) : Type 0 where
   pub length : length bytes ≡ (rate_is rate).bytes
   pub spare : spare_bits_set (category_of (rate_is rate).number) bytes ≡ false

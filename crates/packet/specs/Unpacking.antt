@@ -10,13 +10,13 @@ use Rattle.service.specs.Tests.{spare_bits_set}
 use Rattle.packet.specs.declared.codes.Codes.{Codes}
 use Rattle.packet.specs.Calls.{Holds, Lawful}
 
--- what unpacking at a rate answers: with record 0, fault 6 exactly if the length is not that of the rate, and else fault 9
--- exactly if a spare bit is set
+-- with record 0, fault 6 if the length is not that of the rate, and else fault 9 if a spare bit is set
 abbrev pub UnpackFault : Rate → List ℕ → Answer → Type 0
 UnpackFault rate bytes a =
     ((a ≡ refused_at 6 0) × (length bytes ≢ (rate_is rate).bytes))
     ⊎ ((a ≡ refused_at 9 0) × (length bytes ≡ (rate_is rate).bytes) × (spare_bits_set (category_of (rate_is rate).number) bytes ≡ true))
 
+-- what unpacking at a rate answers: the codes that a lawful packet holds, and else the fault
 abbrev pub UnpacksCodes : Rate → List ℕ → Result Codes Fault → Type 0
 UnpacksCodes rate bytes r =
     MatchResult r (λ c. (c.rate ≡ rate) × Lawful rate bytes × Holds rate bytes c.numbers)

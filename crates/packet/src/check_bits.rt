@@ -1,12 +1,11 @@
 //! The check bits of a Rate 1 packet.
-ghost use Rattle.std.specs.Prelude.{◌≡◌, ◌<◌, Some, slice_get};
-ghost use Rattle.packet_layout.specs.CodeBits.{index};
+ghost use Rattle.std.specs.Prelude.{◌≡◌, slice_get};
 ghost use Rattle.packet_layout.specs.Guarded.{guarded_code_bits};
 ghost use Rattle.packet.specs.Bits.{value};
 ghost use Rattle.packet.specs.CheckBits.{message_of, transmitted};
 
 use crate::kinds::code_bit_at;
-use crate::lists::CodeList;
+use crate::lists::{CodeList, bit};
 use cyclic::Message;
 use packet_layout::CodeBit;
 use packet_layout::CodeName::{Cbgain, Lsp};
@@ -38,15 +37,6 @@ const PCB_BITS: u32 = 11;
 
 // PCB[1] to PCB[10] are inverted for transmission, and PCB[0] is not.
 const INVERSION: u16 = 0b111_1111_1110;
-
-/// A code bit of the list.
-pub(crate) fn bit(list: &CodeList, c: CodeBit) -> u8
-    requires code { index c < 36 }
-    requires number { c.2 < 16 }
-    ensures { result ≡ value list.now (Some c) }
-{
-    (list[c.index()] >> c.2 & 1) as u8
-}
 
 // The guarded code bit at x^(17 - i) of a(x); none past the last.
 #[tactic(auto, unfolding(packet_layout::specs::Guarded::guarded_code_bits))]

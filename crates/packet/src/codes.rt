@@ -50,7 +50,7 @@ impl Codes {
         ensures { MatchResult result (λ c. (c.rate ≡ rate) × (c.numbers ≡ numbers))
             (λ e. (refusal_is e ≡ refused 17) × (Within rate numbers → ⊥)) }
     {
-        if !fit_all(rate, &numbers) {
+        if !within(rate, &numbers) {
             return Err(Refusal::Codes);
         }
         Ok(Codes { rate, numbers })
@@ -148,30 +148,30 @@ fn bits_at(rate: Rate, name: CodeName, index: usize) -> u32
 
 // Whether a code has at most so many bits.
 #[tactic(auto, using(crate::proofs::Numbers::fits, crate::proofs::Numbers::fits_not))]
-fn within(code: u8, bits: u32) -> bool
+fn fits(code: u8, bits: u32) -> bool
     ensures { MatchBool result (code < 2 ^ bits) (2 ^ bits ≤ code) }
 {
     code.unbounded_shr(bits) == 0
 }
 
 // Whether each code of a name is within its width.
-fn fit(rate: Rate, name: CodeName, codes: &[u8]) -> bool
+fn all_fit(rate: Rate, name: CodeName, codes: &[u8]) -> bool
     ensures { MatchBool result (Fits rate name codes.now) (Fits rate name codes.now → ⊥) }
 {
     codes
         .iter()
         .enumerate()
-        .all(|(i, code)| within(*code, bits_at(rate, name, i)))
+        .all(|(i, code)| fits(*code, bits_at(rate, name, i)))
 }
 
 // Whether all codes of a frame are.
-fn fit_all(rate: Rate, c: &CodeNumbers) -> bool
+fn within(rate: Rate, c: &CodeNumbers) -> bool
     ensures { MatchBool result (Within rate c.now) (Within rate c.now → ⊥) }
 {
-    fit(rate, CodeName::Lsp, &c.lsp)
-        && fit(rate, CodeName::Plag, &c.plag)
-        && fit(rate, CodeName::Pgain, &c.pgain)
-        && fit(rate, CodeName::Cbindex, &c.cbindex)
-        && fit(rate, CodeName::Cbgain, &c.cbgain)
-        && fit(rate, CodeName::Cbseed, &[c.cbseed])
+    all_fit(rate, CodeName::Lsp, &c.lsp)
+        && all_fit(rate, CodeName::Plag, &c.plag)
+        && all_fit(rate, CodeName::Pgain, &c.pgain)
+        && all_fit(rate, CodeName::Cbindex, &c.cbindex)
+        && all_fit(rate, CodeName::Cbgain, &c.cbgain)
+        && all_fit(rate, CodeName::Cbseed, &[c.cbseed])
 }

@@ -1,24 +1,32 @@
 //! The laws of packing and unpacking, each a theorem that the contract of a function carries.
-ghost use Rattle.packet.specs.Laws.{EachBitOfAPacket, OneRecord, PackingReturnsThePacket, UnpackingReturnsTheCodes};
+ghost use Rattle.packet.specs.Laws.{EachBitOfAPacket, GuardedWord, OneRecordInEachPacket, PackingReturnsThePacket, UnpackingReturnsTheCodes};
 
-/// Carries a theorem: each bit of each byte of a packet is the code bit that its place carries, or 0 at a spare place.
+/// Carries a theorem: each bit of each byte of the packet of some codes is the code bit that its place carries, or 0 at a spare
+/// place.
 #[tactic(auto, using(crate::proofs::Packets::each_bit))]
 pub fn each_bit_of_a_packet()
     ensures { EachBitOfAPacket }
 {}
 
 /// Carries a theorem: unpacking a packed record returns the record. The packet of codes of a rate is lawful, its check bits are
-/// right, it holds these codes, and no others.
+/// right, it holds these codes and no others, and unpacking it answers these codes.
 pub fn unpacking_returns_the_codes()
     ensures { UnpackingReturnsTheCodes }
 {}
 
-/// Carries a theorem: a packet holds one record at most, so that unpacking has one answer.
+/// Carries a theorem: bytes hold exactly one record of codes at each rate, so that unpacking has one answer.
 pub fn one_record()
-    ensures { OneRecord }
+    ensures { OneRecordInEachPacket }
 {}
 
 /// Carries a theorem: packing an unpacked packet returns the packet, if its check bits are right.
 pub fn packing_returns_the_packet()
     ensures { PackingReturnsThePacket }
+{}
+
+/// Carries a theorem: the guarded bits of a Rate 1 packet are a word of 29 bits whose message is a(x) of the codes that the packet
+/// holds, and the word of the packet of some codes is the one that is sent for their a(x).
+#[tactic(auto, using(crate::proofs::Trips::guarded_word))]
+pub fn guarded_word()
+    ensures { GuardedWord }
 {}

@@ -1,11 +1,13 @@
 //! The 36 codes of a frame in order, as packing and reading work on them.
-ghost use Rattle.std.specs.Prelude.{◌≡◌, ℕ, ◌+◌, ◌++◌, ◌≤◌, ◌<◌, length, slice_index, take, drop};
+ghost use Rattle.std.specs.Prelude.{◌≡◌, ℕ, ◌+◌, ◌++◌, ◌≤◌, ◌<◌, length, slice_index, take, drop, Some};
+ghost use Rattle.packet_layout.specs.CodeBits.{index};
+ghost use Rattle.packet.specs.Bits.{value};
 ghost use Rattle.packet.specs.CheckBits.{message_of, pcb_of, transmitted};
 ghost use Rattle.packet.specs.Codes.{in_order, numbers_of, list_of};
 
 use crate::check_bits::check_bits;
 use crate::codes::CodeNumbers;
-use packet_layout::CodeName;
+use packet_layout::{CodeBit, CodeName};
 use service::Rate;
 
 /// LSP 1 to 10, PLAG 1 to 4, PGAIN 1 to 4, CBINDEX 1 to 8, CBGAIN 1 to 8, CBSEED and PCB.
@@ -23,6 +25,15 @@ const CBGAIN: usize = CodeName::Cbgain as usize;
 const CBSEED: usize = CodeName::Cbseed as usize;
 
 const PCB: usize = CodeName::Pcb as usize;
+
+/// A code bit of the list.
+pub(crate) fn bit(list: &CodeList, c: CodeBit) -> u8
+    requires code { index c < 36 }
+    requires number { c.2 < 16 }
+    ensures { result ≡ value list.now (Some c) }
+{
+    (list[c.index()] >> c.2 & 1) as u8
+}
 
 // Writes codes into the list from a place on. Nothing is said of what stands past them.
 #[tactic(auto, using(crate::proofs::Fields::put_none, crate::proofs::Fields::put_more, crate::proofs::Fields::put_all))]

@@ -5,9 +5,8 @@ ghost use Rattle.packet_layout.specs.CodeBits.{index};
 ghost use Rattle.packet.specs.Bits.{bit_at, byte_of, carried, packet_of, value};
 ghost use Rattle.packet.specs.Reading.{ReadsTo};
 
-use crate::check_bits::bit;
 use crate::kinds::PacketKind;
-use crate::lists::CodeList;
+use crate::lists::{CodeList, bit};
 use packet_layout::CodeBit;
 
 // The bit that a place of the packet carries; 0 at a spare place.
