@@ -1,6 +1,6 @@
 -- One more case in a tally. Assumes nothing.
 use Rattle.std.specs.Prelude.{◌≡◌, ℕ, ◌+◌, ◌-◌, ◌^◌, min, Bool, true, false}
-use Rattle.vector_check.specs.declared.Tally.{Tally}
+use Rattle.vector_check.specs.declared.tallies.Tally.{Tally}
 
 -- the next number that 64 bits hold
 abbrev pub next : ℕ → ℕ
