@@ -164,7 +164,7 @@ fn all_fit(rate: Rate, name: CodeName, codes: &[u8]) -> bool
         .all(|(i, code)| fits(*code, bits_at(rate, name, i)))
 }
 
-// Whether all codes of a frame are.
+// Whether all codes of a frame are within their widths.
 fn within(rate: Rate, c: &CodeNumbers) -> bool
     ensures { MatchBool result (Within rate c.now) (Within rate c.now → ⊥) }
 {
