@@ -30,7 +30,7 @@ abbrev pub ◌>>=◌ : {A B : Type 0} → Result A Unreadable → (A → Result 
 (Ok x) >>= f = f x
 (Err e) >>= f = Err e
 
--- what stands between the spaces of a line
+-- what stands between the spaces of a line; 32 is a space
 abbrev pub words : List ℕ → List (List ℕ)
 words line = slice_split (λ b. b == 32) line
 
@@ -56,9 +56,7 @@ packet_bytes w = if bytes_eq w (codes "-") then Ok [] else if length w == 0 then
 
 -- behind pack stand a rate and 35 codes
 abbrev pub pack_words : List (List ℕ) → Result Asked Unreadable
-pack_words ws = if length ws == 36 then (do
-  ns ← numbers ws
-  Ok (pack (slice_index ns 0) (numbers_of (drop 1 ns)))) else Err PackWords
+pack_words ws = if length ws == 36 then (numbers ws >>= λ ns. Ok (pack (slice_index ns 0) (numbers_of (drop 1 ns)))) else Err PackWords
 
 -- behind unpack stand a rate and a packet
 abbrev pub unpack_words : List (List ℕ) → Result Asked Unreadable

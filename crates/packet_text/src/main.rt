@@ -2,7 +2,7 @@
 #![tactic(auto)]
 
 ghost use Rattle.std.specs.Prelude.{IfSome, OnOk};
-ghost use Rattle.packet_text.specs.Lines.{AnswersInput};
+ghost use Rattle.packet_text.specs.Lines.{AnswersInput, AnswersLine};
 
 use anyhow::{Context, ensure};
 use program::exit_code;
@@ -47,7 +47,7 @@ fn run(rt: &HostRuntime) -> anyhow::Result<()> {
     answer_lines(rt.alloc(), input, &mut io::writer(rt))
 }
 
-/// Answers each line of an input by one line.
+// Answers each line of an input by one line.
 fn answer_lines<R: BufRead + Drop, W: Write>(
     heap: Global,
     input: R,
@@ -58,8 +58,16 @@ fn answer_lines<R: BufRead + Drop, W: Write>(
 {
     for line in input.split(heap, b'\n') {
         let line = line.context("standard input cannot be read")?;
-        let text = packet_lines::answer(heap, &line)?;
-        writeln!(output, "{text}")?;
+        answer_line(heap, &line, output)?;
     }
+    Ok(())
+}
+
+// Answers a line by one line.
+fn answer_line<W: Write>(heap: Global, line: &[u8], output: &mut W) -> anyhow::Result<()>
+    ensures { OnOk result (AnswersLine line.now (W.contents output.old) (W.contents output.new)) }
+{
+    let text = packet_lines::answer(heap, line)?;
+    writeln!(output, "{text}")?;
     Ok(())
 }
