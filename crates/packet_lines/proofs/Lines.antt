@@ -38,7 +38,7 @@ visible_encoded bytes fits =
     All-weaker (λ c. is_hex_digit c ≡ true) (λ c. 32 < c) visible_hex (encode_lower bytes) ok.1
 
 -- the words, joined by spaces
-abbrev pub line : List (List ℕ) → List ℕ
+abbrev line : List (List ℕ) → List ℕ
 line ws = join_with_byte 32 ws
 
 no_space : (w : List ℕ) → Visible w → All (λ b. eqb b 32 ≡ false) w
@@ -67,7 +67,7 @@ no_return l h =
           rw (ne_eqb (get_or l (length l - 1) 0) 13 (omega arith)) refl
     ]
 
-pub words_again : (w : List ℕ) (ws : List (List ℕ)) → AllByRecursion Visible (w ∷ ws) → words (strip_carriage_return (line (w ∷ ws))) ≡ w ∷ ws
+words_again : (w : List ℕ) (ws : List (List ℕ)) → AllByRecursion Visible (w ∷ ws) → words (strip_carriage_return (line (w ∷ ws))) ≡ w ∷ ws
 words_again w ws v = ap words (no_return (line (w ∷ ws)) (no_control w ws v)) ∙ words_line w ws v
 
 numbers_decimals : (ns : List ℕ) → All (λ n. n < 256) ns → numbers (map decimal ns) ≡ Ok ns

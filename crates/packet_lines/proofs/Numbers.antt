@@ -1,5 +1,5 @@
 -- The number that a word is, and the numbers of words one by one.
-use Rattle.std.proofs.Common.{◌≡◌, ℕ, ◌<◌, true, false, ◌&&◌, List, [], ◌∷◌, ◌++◌, length, drop, map, Ok, Err, Result, sym, refl, ap, ◌∙◌, inl, inr, arith, rules, decimal, Bor}
+use Rattle.std.proofs.Common.{◌≡◌, ℕ, ◌<◌, true, ◌&&◌, List, [], ◌∷◌, ◌++◌, length, drop, map, Ok, Err, Result, sym, refl, ap, ◌∙◌, inl, inr, arith, rules, decimal, Bor}
 use Rattle.std.specs.Str.{IsUtf8, all_ascii_digits}
 use Rattle.std.specs.List.{list_all}
 use Rattle.std.specs.Char.{is_ascii_digit}
@@ -15,20 +15,17 @@ use Rattle.packet_lines.specs.declared.reasons.Unreadable.TheVariants.{Number}
 use Rattle.packet_lines.specs.Reading.{number, ◌>>=◌}
 
 -- std's words for decimal digits and their value
-pub own : IsNumeralModel (λ ds. all_ascii_digits ds ≡ true) (digits_value 10)
+own : IsNumeralModel (λ ds. all_ascii_digits ds ≡ true) (digits_value 10)
 own = numerals_by_value (λ ds. all_ascii_digits ds ≡ true) tells_all_ascii_digits
 
 pub digits_by_all : (w : List ℕ) → list_all is_ascii_digit w ≡ all_ascii_digits w
 digits_by_all [] = refl
 digits_by_all (c ∷ cs) = ap (λ b. is_ascii_digit c && b) (digits_by_all cs)
 
-pub digits_are_text : (w : List ℕ) → all_ascii_digits w ≡ true → IsUtf8 w
+digits_are_text : (w : List ℕ) → all_ascii_digits w ≡ true → IsUtf8 w
 digits_are_text w h = IsUtf8-from_ascii w (IsAscii-from_digits w (own.to w h))
 
-pub number_not : (w : List ℕ) → all_ascii_digits w ≡ false → number w ≡ Err Number
-number_not w h = grind (arith)
-
-pub number_is : (w : List ℕ) → all_ascii_digits w ≡ true → 0 < length w → digits_value 10 w < 256 → number w ≡ Ok (digits_value 10 w)
+number_is : (w : List ℕ) → all_ascii_digits w ≡ true → 0 < length w → digits_value 10 w < 256 → number w ≡ Ok (digits_value 10 w)
 number_is w h some small = rw (lt-ltb 0 (length w) some, h, lt-ltb (digits_value 10 w) 256 small) refl
 
 number_too_large : (w : List ℕ) → all_ascii_digits w ≡ true → ((0 < length w) × (digits_value 10 w < 256) → ⊥) → number w ≡ Err Number

@@ -47,12 +47,15 @@ fn answers_with_a_refusal(rt: HostRuntime) -> Result<(), Fail> {
 #[test]
 fn names_what_is_wrong(rt: HostRuntime) {
     let heap = rt.alloc();
-    let cases: [(&str, Unreadable); 5] = [
+    let cases: [(&str, Unreadable); 8] = [
         ("", Unreadable::Verb),
         ("pack 4 0", Unreadable::PackWords),
         ("unpack 4", Unreadable::UnpackWords),
         ("unpack +4 -", Unreadable::Number),
+        ("unpack 256 -", Unreadable::Number),
         ("unpack 4 ", Unreadable::Packet),
+        ("unpack 4 000", Unreadable::Packet),
+        ("unpack 4 0g", Unreadable::Packet),
     ];
     for (line, reason) in cases {
         let read = read_line(heap, line.as_bytes());
