@@ -11,8 +11,8 @@ use Rattle.figures.specs.declared.codebook.CodebookFigure.{CodebookFigure}
 use Rattle.figures.specs.declared.codebook.CodebookParameter.{CodebookParameter}
 use Rattle.figures.specs.declared.codebook.Sign.{Sign}
 use Rattle.figures.specs.declared.codebook.Sign.TheVariants.{Plus, Minus}
-use Rattle.figures.specs.Codebook.{codebook_allowed, codebook_codes, codebook_of, increments, increment_of, increment_number, has_index, index_allowed, index_of, shifted, sign_of}
-use Rattle.figures.specs.Laws.{CodebookCodesFit, CodebookDecoded, CodebookEncoded, CodebookRoundTrips, figure_of}
+use Rattle.figures.specs.Codebook.{codebook_allowed, codebook_codes, figure_of_codes, increments, increment_of, increment_number, sends_index_and_sign, index_allowed, index_of, shifted, sign_of}
+use Rattle.figures.specs.Laws.{CodebookCodesFit, CodebookDecoded, CodebookEncoded, CodebookRoundTrips, figure_of_parameter}
 
 -- Three tests of a code, which are computed of all of them: its increment has its number, and the shift of the index leads
 -- there and back, within the codebook.
@@ -75,22 +75,33 @@ number_of rate z h =
 abbrev parameter : Sign → ℕ → ℤ → CodebookParameter
 parameter s i z = record { sign = s; index = i; increment = z }
 
+-- codes that fit 7 bits and 3 bits, at a rate with an index
+indexed_fit : (rate : Rate) → sends_index_and_sign rate ≡ true → (c g : ℕ) → c < 128 → g < 8 → CodebookCodesFit rate c g
+indexed_fit Full x c g lt lt' = record { cbindex_bits = lt; cbgain_bits = lt' }
+indexed_fit Half x c g lt lt' = record { cbindex_bits = lt; cbgain_bits = lt' }
+indexed_fit Quarter x c g lt lt' = record { cbindex_bits = lt; cbgain_bits = lt' }
+indexed_fit Eighth x c g lt lt' = absurd (false≢true x)
+
 -- an allowed parameter at a rate with an index
-decoded_indexed : (rate : Rate) → has_index rate ≡ true → (s : Sign) (i : ℕ) (z : ℤ) → codebook_allowed rate (parameter s i z) ≡ true → CodebookDecoded rate (parameter s i z)
-unfolding codebook_allowed codebook_codes codebook_of
+decoded_indexed : (rate : Rate) → sends_index_and_sign rate ≡ true → (s : Sign) (i : ℕ) (z : ℤ) → codebook_allowed rate (parameter s i z) ≡ true → CodebookDecoded rate (parameter s i z)
+unfolding codebook_allowed codebook_codes figure_of_codes
 decoded_indexed rate x Plus i z h =
     let a = and_parts (index_allowed rate i) (is_some (increment_number rate z)) h in
     let n = number_of rate z a.1 in
-    record { fit = record { cbindex_bits = grind (arith, nat_tests, a.0, x); cbgain_bits = grind (arith, n.0, x) }; same = grind (arith, nat_tests, a.0, n.0, n.1, x) }
+    let c : (codebook_codes rate (parameter Plus i z)).0 < 128 = grind (arith, nat_tests, a.0, x) in
+    let g : (codebook_codes rate (parameter Plus i z)).1 < 8 = grind (arith, n.0, x) in
+    record { fit = indexed_fit rate x _ _ c g; same = grind (arith, nat_tests, a.0, n.0, n.1, x) }
 decoded_indexed rate x Minus i z h =
-    let a = and_parts (has_index rate && index_allowed rate i) (is_some (increment_number rate z)) h in
-    let b = (and_parts (has_index rate) (index_allowed rate i) a.0).1 in
+    let a = and_parts (sends_index_and_sign rate && index_allowed rate i) (is_some (increment_number rate z)) h in
+    let b = (and_parts (sends_index_and_sign rate) (index_allowed rate i) a.0).1 in
     let n = number_of rate z a.1 in
     let s = shifted_back i (grind (arith, nat_tests, b, x)) in
-    record { fit = record { cbindex_bits = grind (arith, nat_tests, b, x); cbgain_bits = grind (arith, n.0, x) }; same = grind (arith, nat_tests, n.0, n.2, s, x) }
+    let c : (codebook_codes rate (parameter Minus i z)).0 < 128 = grind (arith, nat_tests, b, x) in
+    let g : (codebook_codes rate (parameter Minus i z)).1 < 8 = grind (arith, n.0, x) in
+    record { fit = indexed_fit rate x _ _ c g; same = grind (arith, nat_tests, n.0, n.2, s, x) }
 
-decoded : (rate : Rate) (s : Sign) (i : ℕ) (z : ℤ) → codebook_allowed rate (parameter s i z) ≡ true → CodebookDecoded rate (parameter s i z)
-unfolding codebook_allowed codebook_codes codebook_of
+pub decoded : (rate : Rate) (s : Sign) (i : ℕ) (z : ℤ) → codebook_allowed rate (parameter s i z) ≡ true → CodebookDecoded rate (parameter s i z)
+unfolding codebook_allowed codebook_codes figure_of_codes
 decoded Full s i z h = decoded_indexed Full refl s i z h
 decoded Half s i z h = decoded_indexed Half refl s i z h
 decoded Quarter s i z h = decoded_indexed Quarter refl s i z h
@@ -100,8 +111,8 @@ decoded Eighth Plus i z h =
 decoded Eighth Minus i z h = absurd (false≢true h)
 
 -- codes that fit, at a rate with an index, and the parameter that they stand for
-encoded_indexed : (rate : Rate) → has_index rate ≡ true → (c g : ℕ) → c < 128 → g < 8 → CodebookEncoded rate c g (parameter (sign_of rate g) (index_of (sign_of rate g) c) (increment_of rate g))
-unfolding codebook_allowed codebook_codes codebook_of
+encoded_indexed : (rate : Rate) → sends_index_and_sign rate ≡ true → (c g : ℕ) → c < 128 → g < 8 → CodebookEncoded rate c g (parameter (sign_of rate g) (index_of (sign_of rate g) c) (increment_of rate g))
+unfolding codebook_allowed codebook_codes figure_of_codes
 encoded_indexed rate x c g lt lt' =
     let n = number_back rate g lt' in
     let f = shifted_forth c lt in
@@ -115,21 +126,22 @@ encoded_indexed rate x c g lt lt' =
     ]
 
 -- no other parameter stands for them
-same_parameter : (rate : Rate) → has_index rate ≡ true → (p : CodebookParameter) (c g : ℕ) → figure_of rate p ≡ codebook_of rate c g → p ≡ parameter (sign_of rate g) (index_of (sign_of rate g) c) (increment_of rate g)
-unfolding codebook_of
+same_parameter : (rate : Rate) → sends_index_and_sign rate ≡ true → (p : CodebookParameter) (c g : ℕ) → figure_of_parameter rate p ≡ figure_of_codes rate c g → p ≡ parameter (sign_of rate g) (index_of (sign_of rate g) c) (increment_of rate g)
+unfolding figure_of_codes
 same_parameter rate x p c g e = grind (arith, e, x)
 
-encoded_from : (rate : Rate) → has_index rate ≡ true → (c g : ℕ) → c < 128 → g < 8 → (p : CodebookParameter) → figure_of rate p ≡ codebook_of rate c g → CodebookEncoded rate c g p
+encoded_from : (rate : Rate) → sends_index_and_sign rate ≡ true → (c g : ℕ) → c < 128 → g < 8 → (p : CodebookParameter) → figure_of_parameter rate p ≡ figure_of_codes rate c g → CodebookEncoded rate c g p
 encoded_from rate x c g lt lt' p e =
     subst (CodebookEncoded rate c g) (sym (same_parameter rate x p c g e)) (encoded_indexed rate x c g lt lt')
 
-encoded : (rate : Rate) (cbindex cbgain : ℕ) → CodebookCodesFit rate cbindex cbgain → (p : CodebookParameter) → figure_of rate p ≡ codebook_of rate cbindex cbgain → CodebookEncoded rate cbindex cbgain p
-unfolding codebook_allowed codebook_codes codebook_of
+encoded : (rate : Rate) (cbindex cbgain : ℕ) → CodebookCodesFit rate cbindex cbgain → (p : CodebookParameter) → figure_of_parameter rate p ≡ figure_of_codes rate cbindex cbgain → CodebookEncoded rate cbindex cbgain p
+unfolding codebook_allowed codebook_codes figure_of_codes
 encoded Full c g fit p e = encoded_from Full refl c g fit.cbindex_bits fit.cbgain_bits p e
 encoded Half c g fit p e = encoded_from Half refl c g fit.cbindex_bits fit.cbgain_bits p e
 encoded Quarter c g fit p e = encoded_from Quarter refl c g fit.cbindex_bits fit.cbgain_bits p e
 encoded Eighth c g fit p e =
-    let lt = fit.cbgain_bits in
+    let none : c < 1 = fit.cbindex_bits in
+    let lt : g < 4 = fit.cbgain_bits in
     let n = number_back Eighth g (omega arith) in
     let s = ap (λ (f : CodebookFigure). f.sign) e in
     let z = ap (λ (f : CodebookFigure). f.increment) e in

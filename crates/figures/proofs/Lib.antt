@@ -1,2 +1,3 @@
 mod Pitches
 mod Codebooks
+mod Frames

@@ -4,7 +4,7 @@ use Rattle.std.proofs.lemmas.Bool.Decides.{nat_tests}
 use Rattle.figures.specs.Pitch.{pitch_allowed, pitch_codes, pitch_of}
 use Rattle.figures.specs.Laws.{PitchCodesFit, PitchDecoded, PitchEncoded, PitchRoundTrips}
 
-decoded : (pair : ℕ × ℕ) → pitch_allowed pair ≡ true → PitchDecoded pair
+pub decoded : (pair : ℕ × ℕ) → pitch_allowed pair ≡ true → PitchDecoded pair
 unfolding pitch_allowed pitch_codes pitch_of
 decoded (lag, gain) h =
     let fit : PitchCodesFit (pitch_codes (lag, gain)).0 (pitch_codes (lag, gain)).1 =

@@ -2,3 +2,4 @@ pub mod Subframes
 pub mod Pitch
 pub mod Codebook
 pub mod Laws
+pub mod FrameLaws

@@ -1,6 +1,6 @@
 -- The pitch lag and the pitch gain of a subframe (IS-96, A.1.4.5). A pair is the lag in samples, and the gain in quarters. What
 -- is unfoldable is opaque: a proof sees behind its name only if it says so. Assumes nothing.
-use Rattle.std.specs.Prelude.{◌≡◌, ℕ, ◌+◌, ◌-◌, ◌<◌, ◌≤◌, Bool, true, if◌then◌else◌, ◌&&◌, List, ◌==◌, nat_le, slice_index, slice_index_or}
+use Rattle.std.specs.Prelude.{◌≡◌, ℕ, ◌+◌, ◌-◌, ◌<◌, ◌≤◌, Bool, true, if◌then◌else◌, ◌&&◌, List, length, ◌==◌, nat_le, slice_index, slice_index_or}
 use Rattle.service.specs.declared.rates.Rate.{Rate}
 use Rattle.service.specs.Rates.{rate_is}
 use Rattle.service.specs.Refusals.{Answer}
@@ -32,13 +32,19 @@ pitch_codes_at codes i = (slice_index codes.plag i, slice_index codes.pgain i)
 abbrev pub pitch_at : PitchCodes → ℕ → ℕ × ℕ
 pitch_at codes i = pitch_of (slice_index codes.plag i) (slice_index codes.pgain i)
 
--- these are the pairs of a frame's codes: each subframe of the rate is decoded, and past these are lag 16 and gain 0
+-- These are the four pairs of a frame's codes: each subframe of the rate is decoded, and past these are lag 16 and gain 0.
 pub record DecodesPitches (rate : Rate) (codes : PitchCodes) (pairs : List (ℕ × ℕ)) : Type 0 where
+  pub plag_length : length codes.plag ≡ 4
+  pub pgain_length : length codes.pgain ≡ 4
+  pub pairs_length : length pairs ≡ 4
   pub decoded : (i : ℕ) → i < (rate_is rate).pitch_subframes → pair_at pairs i ≡ pitch_at codes i
   pub past : (i : ℕ) → (rate_is rate).pitch_subframes ≤ i → i < 4 → pair_at pairs i ≡ (16, 0)
 
--- these are the codes of a frame's pairs: each subframe of the rate is encoded, and past these all codes are 0
+-- These are the codes of a frame's four pairs: each subframe of the rate is encoded, and past these all codes are 0.
 pub record EncodesPitches (rate : Rate) (pairs : List (ℕ × ℕ)) (codes : PitchCodes) : Type 0 where
+  pub pairs_length : length pairs ≡ 4
+  pub plag_length : length codes.plag ≡ 4
+  pub pgain_length : length codes.pgain ≡ 4
   pub allowed : (i : ℕ) → i < (rate_is rate).pitch_subframes → pitch_allowed (pair_at pairs i) ≡ true
   pub encoded : (i : ℕ) → i < (rate_is rate).pitch_subframes → pitch_codes_at codes i ≡ pitch_codes (pair_at pairs i)
   pub past : (i : ℕ) → (rate_is rate).pitch_subframes ≤ i → i < 4 → pitch_codes_at codes i ≡ (0, 0)

@@ -1,18 +1,26 @@
 //! The sign, the codebook index and the increment of the codebook gain of a subframe (IS-96, A.1.4.6).
-ghost use Rattle.std.specs.Prelude.{◌≡◌, ◌<◌, ◌≤◌, true, false, ◌&&◌, Some, None, is_some, unwrap_or, IfSome, MatchOption, MatchResult};
+ghost use Rattle.std.specs.Prelude.{◌≡◌, ◌<◌, ◌≤◌, true, false, ◌&&◌, Some, None, is_some, unwrap_or};
+ghost use Rattle.std.specs.Prelude.{IfSome, MatchOption, MatchResult};
 ghost use Rattle.service.specs.Rates.{rate_is};
 ghost use Rattle.service.specs.Refusals.{refusal_is, refused_at};
-ghost use Rattle.figures.specs.Codebook.{DecodesCodebooks, EncodesCodebooks, RefusesCodebooks, cbgain_of, cbindex_of, codebook_allowed, codebook_at, codebook_codes, codebook_of, has_index, increment_number, increment_of, increments, index_allowed, index_of, sign_allowed, sign_of};
+ghost use Rattle.figures.specs.Codebook.{DecodesCodebooks, EncodesCodebooks, RefusesCodebooks};
+ghost use Rattle.figures.specs.Codebook.{cbgain_of, cbindex_of, codebook_allowed, codebook_at, codebook_codes, figure_of_codes};
+ghost use Rattle.figures.specs.Codebook.{increment_number, increment_of, increments};
+ghost use Rattle.figures.specs.Codebook.{index_allowed, index_of, sends_index_and_sign, sign_allowed, sign_of};
 
 use service::{Rate, Refusal};
 use std::array::from_fn;
 
-// The increments, by their numbers, at Rates 1 and 1/2, and at Rates 1/4 and 1/8.
+// How many increments a rate has.
+const INCREMENTS: u8 = 4;
+
+// The increments in decibels, by their numbers, at Rates 1 and 1/2.
 const HIGH_RATE_INCREMENTS: [i32; 4] = [-4, 0, 4, 8];
 
+// The same at Rates 1/4 and 1/8.
 const LOW_RATE_INCREMENTS: [i32; 4] = [-4, -2, 0, 2];
 
-// The bit of CBGAIN that is set if the sign is minus; the increment's number is below it.
+// If the sign is minus, CBGAIN is so much above the increment's number.
 const SIGN_BIT: u8 = 4;
 
 // How many indices there are.
@@ -24,7 +32,9 @@ const MINUS_SHIFT: u32 = 89;
 /// The sign of the codebook gain.
 #[derive(Clone, Copy, PartialEq, Eq, Debug)]
 pub enum Sign {
+    /// CBGAIN is the increment's number, and CBINDEX the index.
     Plus,
+    /// CBGAIN is 4 above the increment's number, and CBINDEX 89 above the index, modulo 128.
     Minus,
 }
 
@@ -35,7 +45,7 @@ pub struct CodebookFigure {
     pub sign: Sign,
     /// None at Rate 1/8, which sends no index.
     pub index: Option<u8>,
-    /// One of the rate's four.
+    /// One of the rate's four, in decibels.
     pub increment: i32,
 }
 
@@ -46,26 +56,28 @@ pub struct CodebookParameter {
     pub sign: Sign,
     /// 0 to 127. Rate 1/8 does not look at it.
     pub index: u32,
-    /// One of the rate's four: -4, 0, 4 and 8 at Rates 1 and 1/2, -4, -2, 0 and 2 at Rates 1/4 and 1/8.
+    /// In decibels, one of the rate's four: -4, 0, 4 and 8 at Rates 1 and 1/2, -4, -2, 0 and 2 at Rates 1/4 and 1/8.
     pub increment: i32,
 }
 
-/// CBINDEX and CBGAIN of each codebook subframe of a frame; those past the rate's subframes are 0.
-#[derive(Clone, Copy, PartialEq, Eq, Debug)]
+/// CBINDEX and CBGAIN of the codebook subframes of a frame.
+#[derive(Clone, Copy, PartialEq, Eq, Debug, Default)]
 pub struct CodebookCodes {
+    /// The indices, and 89 more, modulo 128, where the sign is minus. Rate 1/8 has none.
     pub cbindex: [u8; 8],
+    /// The numbers of the increments, and 4 more where the sign is minus.
     pub cbgain: [u8; 8],
 }
 
 /// What CBINDEX and CBGAIN stand for at this rate.
-#[tactic(auto, unfolding(crate::specs::Codebook::codebook_of))]
+#[tactic(auto, unfolding(crate::specs::Codebook::figure_of_codes))]
 pub fn decode_codebook(rate: Rate, cbindex: u8, cbgain: u8) -> CodebookFigure
-    ensures { result ≡ codebook_of rate cbindex cbgain }
+    ensures { result ≡ figure_of_codes rate cbindex cbgain }
 {
     let sign = sign_of(rate, cbgain);
     CodebookFigure {
         sign,
-        index: has_index(rate).then(|| index_of(sign, cbindex)),
+        index: sends_index_and_sign(rate).then(|| index_of(sign, cbindex)),
         increment: increment_of(rate, cbgain),
     }
 }
@@ -103,8 +115,8 @@ pub fn decode_codebooks(rate: Rate, codes: CodebookCodes) -> [Option<CodebookFig
     )
 }
 
-/// CBINDEX and CBGAIN of each codebook subframe of a frame, or the refusal of the first that `encode_codebook` refuses. The
-/// parameters past the rate's subframes are not looked at.
+/// CBINDEX and CBGAIN of each codebook subframe of a frame, and 0 past the rate's subframes, or the refusal of the first that
+/// `encode_codebook` refuses. The parameters past the rate's subframes are not looked at.
 pub fn encode_codebooks(
     rate: Rate,
     parameters: [CodebookParameter; 8],
@@ -132,9 +144,9 @@ fn figure_at(rate: Rate, codes: CodebookCodes, index: usize) -> Option<CodebookF
     }
 }
 
-// Whether the rate sends an index and a sign: all but Rate 1/8 do.
-fn has_index(rate: Rate) -> bool
-    ensures { result ≡ has_index rate }
+// Whether the rate sends an index, and a sign with the increment's number: all but Rate 1/8 do.
+fn sends_index_and_sign(rate: Rate) -> bool
+    ensures { result ≡ sends_index_and_sign rate }
 {
     rate != Rate::Eighth
 }
@@ -151,7 +163,7 @@ fn increments(rate: Rate) -> [i32; 4]
 fn sign_of(rate: Rate, cbgain: u8) -> Sign
     ensures { result ≡ sign_of rate cbgain }
 {
-    if has_index(rate) && cbgain >= SIGN_BIT {
+    if sends_index_and_sign(rate) && cbgain >= SIGN_BIT {
         Sign::Minus
     } else {
         Sign::Plus
@@ -161,7 +173,7 @@ fn sign_of(rate: Rate, cbgain: u8) -> Sign
 fn increment_of(rate: Rate, cbgain: u8) -> i32
     ensures { result ≡ increment_of rate cbgain }
 {
-    increments(rate)[usize::from(cbgain % SIGN_BIT)]
+    increments(rate)[usize::from(cbgain % INCREMENTS)]
 }
 
 fn index_of(sign: Sign, cbindex: u8) -> u8

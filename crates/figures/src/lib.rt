@@ -10,7 +10,10 @@ pub use codebook::{
     CodebookCodes, CodebookFigure, CodebookParameter, Sign, decode_codebook, decode_codebooks,
     encode_codebook, encode_codebooks,
 };
-pub use laws::{codebook_round_trips, pitch_round_trips};
+pub use laws::{
+    codebook_round_trips, encoded_codes_fit, frames_round_trip, one_codebook_answer,
+    one_pitch_answer, pitch_round_trips,
+};
 pub use pitch::{PitchCodes, decode_pitch, decode_pitches, encode_pitch, encode_pitches};
 
 #[cfg(test)]

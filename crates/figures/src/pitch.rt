@@ -2,7 +2,8 @@
 ghost use Rattle.std.specs.Prelude.{◌≡◌, ◌<◌, ◌≤◌, true, false, MatchResult};
 ghost use Rattle.service.specs.Rates.{rate_is};
 ghost use Rattle.service.specs.Refusals.{refusal_is, refused_at};
-ghost use Rattle.figures.specs.Pitch.{DecodesPitches, EncodesPitches, RefusesPitches, pitch_allowed, pitch_at, pitch_codes, pitch_of};
+ghost use Rattle.figures.specs.Pitch.{DecodesPitches, EncodesPitches, RefusesPitches};
+ghost use Rattle.figures.specs.Pitch.{pitch_allowed, pitch_at, pitch_codes, pitch_of};
 
 use service::{Rate, Refusal};
 use std::array::from_fn;
@@ -10,21 +11,27 @@ use std::array::from_fn;
 // The pair of PLAG 0: the pitch predictor adds nothing.
 const NO_PITCH: (u32, u32) = (16, 0);
 
-// PLAG is so much below the lag. PGAIN is 1 below the gain.
+// PLAG is so much below the lag.
 const LAG_OFFSET: u32 = 16;
 
-// The lags that go with a gain above 0.
+// PGAIN is so much below the gain.
+const GAIN_OFFSET: u32 = 1;
+
+// The shortest lag that goes with a gain above 0.
 const SHORTEST_LAG: u32 = 17;
 
+// The longest lag.
 const LONGEST_LAG: u32 = 143;
 
-// Two, in quarters.
+// The largest gain: two, in quarters.
 const LARGEST_GAIN: u32 = 8;
 
-/// PLAG and PGAIN of each pitch subframe of a frame; those past the rate's subframes are 0.
-#[derive(Clone, Copy, PartialEq, Eq, Debug)]
+/// PLAG and PGAIN of the pitch subframes of a frame.
+#[derive(Clone, Copy, PartialEq, Eq, Debug, Default)]
 pub struct PitchCodes {
+    /// The codes of the lags: 0 for no pitch, and else 16 below the lag.
     pub plag: [u8; 4],
+    /// The codes of the gains: 1 below the gain in quarters, and without meaning where PLAG is 0.
     pub pgain: [u8; 4],
 }
 
@@ -36,7 +43,7 @@ pub fn decode_pitch(plag: u8, pgain: u8) -> (u32, u32)
     if plag == 0 {
         return NO_PITCH;
     }
-    (u32::from(plag) + LAG_OFFSET, u32::from(pgain) + 1)
+    (u32::from(plag) + LAG_OFFSET, u32::from(pgain) + GAIN_OFFSET)
 }
 
 /// PLAG and PGAIN of this lag and gain, or refusal 11 at this subframe, counted from 1: for a gain above 8, a lag that is not 16
@@ -49,7 +56,7 @@ pub fn encode_pitch(subframe: u8, pair: (u32, u32)) -> Result<(u8, u8), Refusal>
     match pair {
         NO_PITCH => Ok((0, 0)),
         (lag @ SHORTEST_LAG..=LONGEST_LAG, gain @ 1..=LARGEST_GAIN) => {
-            Ok(((lag - LAG_OFFSET) as u8, (gain - 1) as u8))
+            Ok(((lag - LAG_OFFSET) as u8, (gain - GAIN_OFFSET) as u8))
         }
         _ => Err(Refusal::Pitch(subframe)),
     }
@@ -67,8 +74,8 @@ pub fn decode_pitches(rate: Rate, codes: PitchCodes) -> [(u32, u32); 4]
     )
 }
 
-/// PLAG and PGAIN of each pitch subframe of a frame, or the refusal of the first that `encode_pitch` refuses. The pairs past the
-/// rate's subframes are not looked at.
+/// PLAG and PGAIN of each pitch subframe of a frame, and 0 past the rate's subframes, or the refusal of the first that
+/// `encode_pitch` refuses. The pairs past the rate's subframes are not looked at.
 pub fn encode_pitches(rate: Rate, pairs: [(u32, u32); 4]) -> Result<PitchCodes, Refusal>
     ensures { MatchResult result (EncodesPitches rate pairs) (λ e. RefusesPitches rate pairs (refusal_is e)) }
 {
