@@ -151,6 +151,7 @@ fn sends_index_and_sign(rate: Rate) -> bool
     rate != Rate::Eighth
 }
 
+// The increments of the rate, by their numbers.
 fn increments(rate: Rate) -> [i32; 4]
     ensures { result ≡ increments rate }
 {
@@ -160,6 +161,7 @@ fn increments(rate: Rate) -> [i32; 4]
     }
 }
 
+// The sign that CBGAIN stands for.
 fn sign_of(rate: Rate, cbgain: u8) -> Sign
     ensures { result ≡ sign_of rate cbgain }
 {
@@ -170,12 +172,14 @@ fn sign_of(rate: Rate, cbgain: u8) -> Sign
     }
 }
 
+// The increment that CBGAIN stands for.
 fn increment_of(rate: Rate, cbgain: u8) -> i32
     ensures { result ≡ increment_of rate cbgain }
 {
     increments(rate)[usize::from(cbgain % INCREMENTS)]
 }
 
+// The index that CBINDEX stands for.
 fn index_of(sign: Sign, cbindex: u8) -> u8
     ensures { result ≡ index_of sign cbindex }
 {

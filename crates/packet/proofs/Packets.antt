@@ -43,4 +43,4 @@ module _ (rate : Rate) (list : List ℕ) where
       ]
 
 pub each_bit : EachBitOfAPacket
-each_bit rate c = let list = list_of c (pcb_of rate c) in record { bits = packet_bit rate list; bytes = packet_byte rate list }
+each_bit rate c = let list = list_of c (pcb_of rate c) in record { size = packet_length rate list; bits = packet_bit rate list; bytes = packet_byte rate list }

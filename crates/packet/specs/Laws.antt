@@ -1,5 +1,5 @@
 -- What packing and unpacking promise of one another. Assumes nothing.
-use Rattle.std.specs.Prelude.{◌≡◌, ℕ, ◌*◌, ◌^◌, ◌<◌, List, Result, MatchResult, slice_index}
+use Rattle.std.specs.Prelude.{◌≡◌, ℕ, ◌*◌, ◌^◌, ◌<◌, List, length, Result, MatchResult, slice_index}
 use Rattle.service.specs.declared.rates.Rate.{Rate}
 use Rattle.service.specs.declared.rates.Rate.TheVariants.{Full}
 use Rattle.service.specs.declared.refusals.Fault.{Fault}
@@ -13,8 +13,10 @@ use Rattle.packet.specs.CheckBits.{RightPacket, message_of, pcb_of, word_of}
 use Rattle.packet.specs.Codes.{Within, in_order, list_of}
 use Rattle.packet.specs.Unpacking.{UnpacksCodes}
 
--- each place of the packet of some codes has the code bit that it carries, and 0 if it is spare; and its bytes are bytes
+-- the packet of some codes has the bytes of its rate, each place of it has the code bit that it carries, and 0 if it is spare, and
+-- its bytes are below 256
 pub record PacketBits (rate : Rate) (c : CodeNumbers) : Type 0 where
+  pub size : length (packet rate c) ≡ (rate_is rate).bytes
   pub bits : (k : ℕ) → k < 8 * (rate_is rate).bytes → bit_at (packet rate c) k ≡ carried rate (list_of c (pcb_of rate c)) k
   pub bytes : (j : ℕ) → slice_index (packet rate c) j < 256
 

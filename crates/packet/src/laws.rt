@@ -3,7 +3,6 @@ ghost use Rattle.packet.specs.Laws.{EachBitOfAPacket, GuardedWord, OneRecordInEa
 
 /// Carries a theorem: each bit of each byte of the packet of some codes is the code bit that its place carries, or 0 at a spare
 /// place.
-#[tactic(auto, using(crate::proofs::Packets::each_bit))]
 pub fn each_bit_of_a_packet()
     ensures { EachBitOfAPacket }
 {}
@@ -14,7 +13,7 @@ pub fn unpacking_returns_the_codes()
     ensures { UnpackingReturnsTheCodes }
 {}
 
-/// Carries a theorem: bytes hold exactly one record of codes at each rate, so that unpacking has one answer.
+/// Carries a theorem: any bytes, read at a rate, hold exactly one record of codes.
 pub fn one_record()
     ensures { OneRecordInEachPacket }
 {}

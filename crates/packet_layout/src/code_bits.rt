@@ -59,13 +59,13 @@ impl CodeName {
     }
 }
 
-/// A bit of a code: `CodeBit(Code::Lsp, 1, 3)` is LSP1[3]. Codes count from 1; CBSEED and PCB have the number 1.
+/// A bit of a code: `CodeBit(CodeName::Lsp, 1, 3)` is LSP1[3]. Codes count from 1; CBSEED and PCB have the number 1.
 #[derive(Clone, Copy, PartialEq, Eq, Debug)]
 pub struct CodeBit(pub CodeName, pub u8, pub u8);
 
 impl CodeBit {
-    /// Where the code stands among the 36 of a frame, counted from 0, if a frame has a code of this number. Any other number is
-    /// counted on from the first code of the name.
+    /// Where the code stands among the 36 of a frame, counted from 0, if a frame has a code of this number. Any other number
+    /// above 0 is counted on from the first code of the name, and 0 has the index before it, or 0.
     pub fn index(self) -> usize
         ensures { result ≡ index self }
     {

@@ -8,14 +8,15 @@ ghost use Rattle.packet_lines.specs.Reading.{Gives, asked, number, numbers, pack
 use crate::reasons::{ReadError, Unreadable};
 use hex::FromHexError;
 use packet::CodeNumbers;
+use packet_layout::CodeName;
 use std::alloc::{AllocError, Global};
 
 /// What a line asks for.
-#[derive(Debug, Drop)]
+#[derive(PartialEq, Eq, Debug, Drop)]
 pub enum Request {
-    /// To pack codes at the rate of a number.
+    /// To pack codes at the rate that has this number.
     Pack { rate: u8, numbers: CodeNumbers },
-    /// To unpack a packet at the rate of a number.
+    /// To unpack a packet at the rate that has this number.
     Unpack { rate: u8, packet: Vec<u8> },
 }
 
@@ -23,15 +24,15 @@ pub enum Request {
 const PACK_NUMBERS: usize = 36;
 
 // Where the codes of each name begin.
-const PLAG: usize = 10;
+const PLAG: usize = CodeName::Plag as usize;
 
-const PGAIN: usize = 14;
+const PGAIN: usize = CodeName::Pgain as usize;
 
-const CBINDEX: usize = 18;
+const CBINDEX: usize = CodeName::Cbindex as usize;
 
-const CBGAIN: usize = 26;
+const CBGAIN: usize = CodeName::Cbgain as usize;
 
-const CBSEED: usize = 34;
+const CBSEED: usize = CodeName::Cbseed as usize;
 
 /// What a line asks for, or why it asks for nothing. A carriage return at its end is not looked at.
 pub fn read_line(heap: Global, line: &[u8]) -> Result<Request, ReadError>
@@ -111,8 +112,7 @@ fn number(word: &[u8]) -> Result<u8, Unreadable>
     str::from_utf8(word)
         .unwrap()
         .parse::<u8>()
-        .ok()
-        .ok_or(Unreadable::Number)
+        .map_err(|_| Unreadable::Number)
 }
 
 // Whether a word has decimal digits alone.

@@ -12,9 +12,9 @@ use std::fmt;
 pub enum Unreadable {
     /// The first word is neither `pack` nor `unpack`.
     Verb,
-    /// Behind `pack` do not stand 36 words.
+    /// `pack` is not followed by 36 words.
     PackWords,
-    /// Behind `unpack` do not stand two words.
+    /// `unpack` is not followed by two words.
     UnpackWords,
     /// The rate or a code is not decimal digits of a number from 0 to 255.
     Number,
