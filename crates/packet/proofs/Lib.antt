@@ -9,3 +9,4 @@ pub mod Arrays
 pub mod Returns
 pub mod Checked
 pub mod Trips
+pub mod Answers

@@ -5,3 +5,4 @@ pub mod CheckBits
 pub mod Calls
 pub mod Unpacking
 pub mod Laws
+pub mod OneAnswer

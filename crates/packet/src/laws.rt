@@ -1,4 +1,5 @@
 //! The laws of packing and unpacking, each a theorem that the contract of a function carries.
+ghost use Rattle.packet.specs.OneAnswer.{OneAnswer};
 ghost use Rattle.packet.specs.Laws.{EachBitOfAPacket, GuardedWord, OneRecordInEachPacket, PackingReturnsThePacket, UnpackingReturnsTheCodes};
 
 /// Carries a theorem: each bit of each byte of the packet of some codes is the code bit that its place carries, or 0 at a spare
@@ -28,4 +29,11 @@ pub fn packing_returns_the_packet()
 #[tactic(auto, using(crate::proofs::Trips::guarded_word))]
 pub fn guarded_word()
     ensures { GuardedWord }
+{}
+
+/// Carries a theorem: two answers of packing to the same input are the same length or the same refusal, and leave the same buffer;
+/// two answers of unpacking are the same codes or the same refusal.
+#[tactic(auto, using(crate::proofs::Answers::one_answer))]
+pub fn one_answer()
+    ensures { OneAnswer }
 {}
