@@ -19,7 +19,7 @@ use Rattle.figures.specs.Subframes.{FirstToFail, RefusedAtFirst}
 use Rattle.figures.specs.Pitch.{DecodesPitches, EncodesPitches, pair_at, pitch_allowed, pitch_of}
 use Rattle.figures.specs.Codebook.{DecodesCodebooks, EncodesCodebooks, codebook_allowed, figure_of_codes, parameter_at}
 use Rattle.figures.specs.Laws.{CodebookDecoded, PitchDecoded}
-use Rattle.figures.specs.FrameLaws.{CodebookCodesOfFrameFit, EncodedCodesFit, FiguresReadAsSent, FramesRoundTrip, OneCodebookAnswer, OnePitchAnswer, PairsReadAsSent, PitchCodesOfFrameFit}
+use Rattle.figures.specs.FrameLaws.{CodebookCodesOfFrameFit, EncodedCodesFit, FiguresReadAsSent, FramesReadAsSent, OneCodebookAnswer, OnePitchAnswer, PairsReadAsSent, PitchCodesOfFrameFit}
 use Rattle.figures.proofs.Pitches as pitches
 use Rattle.figures.proofs.Codebooks as codebooks
 
@@ -163,8 +163,8 @@ codebook_encoded rate parameters a b p q =
 pub encoded_codes_fit : EncodedCodesFit
 encoded_codes_fit = record { pitch = pitch_fit; codebook = codebook_fit }
 
-pub frames_round_trip : FramesRoundTrip
-frames_round_trip = record { pitch = pitch_trip; codebook = codebook_trip }
+pub frames_read_as_sent : FramesReadAsSent
+frames_read_as_sent = record { pitch = pitch_trip; codebook = codebook_trip }
 
 pub one_pitch_answer : OnePitchAnswer
 one_pitch_answer = record {

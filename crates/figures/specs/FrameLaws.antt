@@ -39,7 +39,7 @@ pub record FiguresReadAsSent (rate : Rate) (sent : List CodebookParameter) (read
   pub past : (i : ℕ) → (rate_is rate).codebook_subframes ≤ i → i < 8 → slice_index_or read i None ≡ None
 
 -- decoding the codes of a frame gives what was encoded
-pub record FramesRoundTrip : Type 0 where
+pub record FramesReadAsSent : Type 0 where
   pub pitch : (rate : Rate) (sent read : List (ℕ × ℕ)) (codes : PitchCodes) → EncodesPitches rate sent codes → DecodesPitches rate codes read → PairsReadAsSent rate sent read
   pub codebook : (rate : Rate) (sent : List CodebookParameter) (read : List (Option CodebookFigure)) (codes : CodebookCodes) → EncodesCodebooks rate sent codes → DecodesCodebooks rate codes read → FiguresReadAsSent rate sent read
 

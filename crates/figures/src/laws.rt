@@ -1,5 +1,5 @@
 //! The laws of the figures, each a theorem that the contract of a function carries.
-ghost use Rattle.figures.specs.FrameLaws.{EncodedCodesFit, FramesRoundTrip, OneCodebookAnswer, OnePitchAnswer};
+ghost use Rattle.figures.specs.FrameLaws.{EncodedCodesFit, FramesReadAsSent, OneCodebookAnswer, OnePitchAnswer};
 ghost use Rattle.figures.specs.Laws.{CodebookRoundTrips, PitchRoundTrips};
 
 /// Carries a theorem: decoding the codes of an accepted pair gives the pair, and these codes fit their bits in a packet. Of codes
@@ -26,9 +26,9 @@ pub fn encoded_codes_fit()
 
 /// Carries a theorem: decoding the codes of an accepted frame gives its pairs or parameters in the rate's subframes; past these it
 /// gives lag 16 and gain 0, or no figure.
-#[tactic(auto, using(crate::proofs::Frames::frames_round_trip))]
-pub fn frames_round_trip()
-    ensures { FramesRoundTrip }
+#[tactic(auto, using(crate::proofs::Frames::frames_read_as_sent))]
+pub fn frames_read_as_sent()
+    ensures { FramesReadAsSent }
 {}
 
 /// Carries a theorem: the contracts of `decode_pitches` and `encode_pitches` allow one answer only, and no pairs may be both

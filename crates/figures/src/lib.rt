@@ -11,7 +11,7 @@ pub use codebook::{
     encode_codebook, encode_codebooks,
 };
 pub use laws::{
-    codebook_round_trips, encoded_codes_fit, frames_round_trip, one_codebook_answer,
+    codebook_round_trips, encoded_codes_fit, frames_read_as_sent, one_codebook_answer,
     one_pitch_answer, pitch_round_trips,
 };
 pub use pitch::{PitchCodes, decode_pitch, decode_pitches, encode_pitch, encode_pitches};

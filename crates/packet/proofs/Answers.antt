@@ -13,7 +13,7 @@ use Rattle.packet.specs.OneAnswer.{OneAnswer, SamePacked, SameUnpacked}
 use Rattle.packet.specs.Unpacking.{UnpackFault, Unpacks}
 use Rattle.packet.proofs.Returns.{one_record}
 
-same_rate : (a b : Rate) (number : ℕ) → (rate_is a).number ≡ number → (rate_is b).number ≡ number → a ≡ b
+pub same_rate : (a b : Rate) (number : ℕ) → (rate_is a).number ≡ number → (rate_is b).number ≡ number → a ≡ b
 same_rate a b number ea eb = distinct_numbers.rates a b (ea ∙ sym eb)
 
 same_codes_packed : (rate : Rate) (c : CodeNumbers) (before after after' : List ℕ) (r r' : Result ℕ Refusal) → PacksCodes rate c before after r

@@ -1,3 +1,4 @@
 pub mod Numbers
 pub mod Joined
 pub mod Lines
+pub mod OneAnswer

@@ -37,3 +37,7 @@ AnswersReading (Err e) text = text ≡ codes "unreadable: " ++ reason_text e
 -- what a line is answered
 abbrev pub Answers : List ℕ → List ℕ → Type 0
 Answers line text = AnswersReading (reading line) text
+
+-- no line has two answers
+abbrev pub OneAnswerToEachLine : Type 0
+OneAnswerToEachLine = (line a b : List ℕ) → Answers line a → Answers line b → a ≡ b

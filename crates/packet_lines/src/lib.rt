@@ -8,7 +8,7 @@ mod reasons;
 mod texts;
 
 pub use answers::answer;
-pub use laws::{pack_line_reads_back, unpack_line_reads_back};
+pub use laws::{one_answer_to_each_line, pack_line_reads_back, unpack_line_reads_back};
 pub use reading::{Request, read_line};
 pub use reasons::{ReadError, Unreadable};
 pub use texts::{codes_text, packet_text};

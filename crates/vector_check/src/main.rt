@@ -5,6 +5,7 @@ mod packets;
 mod reels;
 mod tallies;
 
+use crate::packets::Cases;
 use crate::tallies::Tally;
 use anyhow::{Context, bail, ensure};
 use program::exit_code;
@@ -16,8 +17,9 @@ Usage: vector_check FOLDER
 
 Compares our answers with the reference vectors in a folder: names each difference, and
 prints for each file of cases how many were compared and how many differ. The status is 1,
-with a sentence on standard error, if any differs, a file cannot be read, a line has no
-answer, there is nothing to compare, or it is not given one folder.";
+with a sentence on standard error, if any differs, a file cannot be read, a line does not
+have the form of its file, there is nothing to compare, the output cannot be written, or it
+is not given one folder.";
 
 fn main(rt: HostRuntime) -> ExitCode {
     exit_code(&rt, "vector_check", run(&rt))
@@ -37,9 +39,9 @@ fn run(rt: &HostRuntime) -> anyhow::Result<()> {
         folder: folder.as_str(),
     };
     let reels = vectors.report("reel-check", vectors.compare_reels()?)?;
-    let packs = vectors.report("pack", vectors.compare_packs()?)?;
-    let limits = vectors.report("pack-limits", vectors.compare_limits()?)?;
-    let unpacks = vectors.report("unpack", vectors.compare_unpacks()?)?;
+    let packs = vectors.report("pack", vectors.compare_lines(Cases::Packs)?)?;
+    let limits = vectors.report("pack-limits", vectors.compare_lines(Cases::Limits)?)?;
+    let unpacks = vectors.report("unpack", vectors.compare_lines(Cases::Unpacks)?)?;
     ensure!(reels && packs && limits && unpacks, "some answers differ");
     Ok(())
 }

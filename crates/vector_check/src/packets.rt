@@ -13,34 +13,40 @@ use std::alloc::{AllocError, Global};
 /// The bytes of the largest output buffer of a case.
 const MOST_ROOM: usize = 64;
 
+/// The files of cases about packets.
+#[derive(Clone, Copy)]
+pub(crate) enum Cases {
+    /// Packing, and unpacking what was packed: a rate, the 35 codes and the packet.
+    Packs,
+    /// Packing into buffers of many lengths: a rate, the 35 codes, a buffer's length and the answer.
+    Limits,
+    /// Unpacking: a rate, the bytes and the answer.
+    Unpacks,
+}
+
+impl Cases {
+    /// The name of the file.
+    fn file(self) -> &'static str {
+        match self {
+            Cases::Packs => "pack.txt",
+            Cases::Limits => "pack-limits.txt",
+            Cases::Unpacks => "unpack.txt",
+        }
+    }
+}
+
 impl Vectors<'_> {
-    /// Packing, and unpacking what was packed, by the cases of `pack.txt`: a rate, the 35 codes and the packet.
-    pub(crate) fn compare_packs(self) -> anyhow::Result<Tally> {
-        let cases = self.read_cases("pack.txt")?;
+    /// The answers to the cases of a file, one in each line.
+    pub(crate) fn compare_lines(self, cases: Cases) -> anyhow::Result<Tally> {
+        let text = self.read_cases(cases.file())?;
         let mut tally = Tally::default();
-        for case in cases.as_str().lines() {
-            tally.count(self.compare_pack(case)?);
-        }
-        Ok(tally)
-    }
-
-    /// Packing into buffers of many lengths, by the cases of `pack-limits.txt`: a rate, the 35 codes, a buffer's length and the
-    /// answer.
-    pub(crate) fn compare_limits(self) -> anyhow::Result<Tally> {
-        let cases = self.read_cases("pack-limits.txt")?;
-        let mut tally = Tally::default();
-        for case in cases.as_str().lines() {
-            tally.count(self.compare_limit(case)?);
-        }
-        Ok(tally)
-    }
-
-    /// Unpacking, by the cases of `unpack.txt`: a rate, the bytes and the answer.
-    pub(crate) fn compare_unpacks(self) -> anyhow::Result<Tally> {
-        let cases = self.read_cases("unpack.txt")?;
-        let mut tally = Tally::default();
-        for case in cases.as_str().lines() {
-            tally.count(self.compare_unpack(case)?);
+        for case in text.as_str().lines() {
+            let same = match cases {
+                Cases::Packs => self.compare_pack(case)?,
+                Cases::Limits => self.compare_limit(case)?,
+                Cases::Unpacks => self.compare_unpack(case)?,
+            };
+            tally.count(same);
         }
         Ok(tally)
     }
