@@ -1,5 +1,5 @@
 //! What a line asks for.
-ghost use Rattle.std.specs.Prelude.{◌≡◌, ℕ, ◌+◌, ◌≤◌, IfOk, Ok, map, length, take, drop, vec_len};
+ghost use Rattle.std.specs.Prelude.{◌≡◌, ℕ, true, ◌+◌, ◌≤◌, IfOk, Ok, map, length, take, drop, vec_len};
 ghost use Rattle.std.specs.Str.{all_ascii_digits};
 ghost use Rattle.std.specs.Str.Lines.{strip_carriage_return};
 ghost use Rattle.packet.specs.Codes.{numbers_of};
@@ -109,6 +109,14 @@ fn number(word: &[u8]) -> Result<u8, Unreadable>
     if !is_digits(word) {
         return Err(Unreadable::Number);
     }
+    digits_number(word)
+}
+
+// The number that decimal digits are.
+fn digits_number(word: &[u8]) -> Result<u8, Unreadable>
+    requires { all_ascii_digits word.now ≡ true }
+    ensures { result ≡ number word.now }
+{
     str::from_utf8(word)
         .unwrap()
         .parse::<u8>()
