@@ -1,3 +1,3 @@
-mod Pitches
-mod Codebooks
-mod Frames
+pub mod Pitches
+pub mod Codebooks
+pub mod Frames

@@ -1,5 +1,6 @@
 pub mod Rates
 pub mod Categories
+pub mod Letters
 pub mod Refusals
 pub mod Names
 pub mod Texts

@@ -1,14 +1,16 @@
-//! The types that every crate shares: the rates, the categories, and the refusals by number.
+//! The types that every crate shares: the rates, the categories, the letters of a page, and the refusals by number.
 #![tactic(auto)]
 
 ghost use Rattle.service.specs.Distinct.{DistinctNumbers};
 
 mod categories;
 mod rates;
+mod readings;
 mod refusals;
 
 pub use categories::Category;
 pub use rates::Rate;
+pub use readings::{Letter, RunEnd};
 pub use refusals::{Fault, Refusal};
 
 /// Carries a theorem: no two rates and no two categories share a number, no two refusals a number and a

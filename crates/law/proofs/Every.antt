@@ -1,0 +1,89 @@
+-- Every run keeps the law.
+use Rattle.std.proofs.Common.{◌≡◌, ℕ, ◌+◌, ◌<◌, ◌≤◌, ◌⊎◌, true, List, [], ◌∷◌, ◌++◌, length, Some, None, Option, ℤ, pos, refl, sym, ap, ◌∙◌, subst, arith}
+use Rattle.service.specs.declared.rates.Rate.TheVariants.{Full as Rate1}
+use Rattle.service.specs.declared.categories.Category.TheVariants.{Full, Suspect}
+use Rattle.lsp.specs.Histories.{Event, after, blank, erasure, packet as packet_event, restart}
+use Rattle.lsp.specs.States.{InRange, fresh}
+use Rattle.packet.specs.Calls.{packet}
+use Rattle.packet.specs.Codes.{Within}
+use Rattle.law.specs.Arrivals.{is_lawful}
+use Rattle.law.specs.GuardedBits.{changed_guarded}
+use Rattle.law.specs.Readings.{Reads}
+use Rattle.law.specs.Ends.{Taken}
+use Rattle.law.specs.Links.{Link, Sent, to_come}
+use Rattle.law.specs.Runs.{Call, Frame, Moment, New, Run, Step, arrivals_taken, frames_sent, now, past, sent_event, taken_event, the_receiver, the_sender}
+use Rattle.law.specs.Law.{Carried, EveryRun, EveryStepCarries, FewChanges, GuardedBitsHold, Law, RunsJoin}
+use Rattle.law.specs.Answers.{EveryLinkKeeps, Kept}
+use Rattle.law.proofs.Agreement.{agree}
+use Rattle.law.proofs.Facts.{IsPacket, WasRead, packet_facts, sent_facts, taken_facts}
+use Rattle.law.proofs.Guarding.{guarded_bits_hold}
+use Rattle.law.proofs.Keeping.{arrivals_kept, seed_kept, to_come_kept}
+use Rattle.law.proofs.Sent.{ten_length}
+use Rattle.law.proofs.Steps.{receiver_moves, sender_moves}
+use Rattle.law.proofs.Timeline.{held, in_range, rounded, spans}
+
+-- there are always ten memories
+ten_after : (events : List Event) → length (after fresh events) ≡ 10
+ten_after [] = ten_length _
+ten_after (packet_event rate codes ∷ events) = ten_length _
+ten_after (erasure ∷ events) = ten_length _
+ten_after (blank ∷ events) = ten_after events
+ten_after (restart ∷ events) = ten_length _
+
+module _ (s : Link) (new : New s) (h : List Moment) (r : Run s h) where
+  sender_new : s.sender.memories ≡ fresh
+  sender_new = ap (λ e. e.memories) new.sender
+
+  receiver_new : s.receiver.memories ≡ fresh
+  receiver_new = ap (λ e. e.memories) new.receiver
+
+  guarded_bits : (n : ℕ) (f : Sent) (x : Taken) → FewChanges h n f x → GuardedBitsHold f x
+  guarded_bits n f x w =
+      let (a, is_sent, what) = w.frame in
+      let (b, is_taken, read) = w.arrival in
+      let p = packet_facts f (subst IsPacket what (sent_facts s h new r n a is_sent)) in
+      let q = subst WasRead read (taken_facts s h new r n b is_taken) in
+      guarded_bits_hold f x w.rate (subst (λ rate. Within rate f.codes) w.rate p.0) p.1 q.lawful q.read w.category w.few
+
+  law : Law s h
+  law = record {
+    guarded_bits = guarded_bits;
+    sender_rounded = rounded the_sender sender_moves s sender_new h r;
+    receiver_rounded = rounded the_receiver receiver_moves s receiver_new h r;
+    agreement = agree h _ _ _ _ (spans the_sender sender_moves s sender_new h r) (spans the_receiver receiver_moves s receiver_new h r);
+  }
+
+  kept : Kept (now s h)
+  kept =
+      let a = arrivals_kept s h new r in
+      record {
+        sender = (in_range the_sender sender_moves s sender_new h r, ap length (held the_sender sender_moves s sender_new h r) ∙ ten_after (past the_sender h));
+        receiver = (in_range the_receiver receiver_moves s receiver_new h r, ap length (held the_receiver receiver_moves s receiver_new h r) ∙ ten_after (past the_receiver h));
+        seed = seed_kept s h new r;
+        places = a.line.places;
+        fits = a.line.fits;
+        waiting = a.line.waiting;
+        supply = to_come_kept (now s h).supply (now s h).line a.line a.supply;
+      }
+
+pub every_run : EveryRun
+every_run s h new r = law s new h r
+
+pub every_link_keeps : EveryLinkKeeps
+every_link_keeps s h new r = kept s new h r
+
+pub carried : EveryStepCarries
+carried t u c p = record {
+  step = p;
+  goes_on = λ s h new r q.
+      let p' : Step (now s h) c u = subst (λ y. Step y c u) (sym q) p in
+      ((p', r), every_run s (record { call = c; link = u } ∷ h) new (p', r));
+}
+
+now_join : (s : Link) (h h' : List Moment) → now s (h' ++ h) ≡ now (now s h) h'
+now_join s h [] = refl
+now_join s h (m ∷ h') = refl
+
+pub join : RunsJoin
+join s h [] r r' = (r, refl)
+join s h (m ∷ h') r r' = ((subst (λ y. Step y m.call m.link) (sym (now_join s h h')) r'.0, (join s h h' r r'.1).0), refl)

@@ -1,0 +1,148 @@
+-- What every link keeps: the places of its line, and lawful arrivals.
+use Rattle.std.proofs.Common.{◌≡◌, ℕ, zero, suc, ◌+◌, ◌-◌, ◌*◌, ◌%◌, ◌<◌, ◌≤◌, Bool, true, false, not, ◌&&◌, ◌==◌, List, [], ◌∷◌, ◌++◌, length, set, Ok, Err, Result, ℤ, pos, Some, None, Option, refl, sym, ap, ap₂, ◌∙◌, subst, inl, inr, arith}
+use Rattle.std.proofs.lemmas.Bool.{and_parts}
+use Rattle.std.proofs.lemmas.List.{length-append}
+use Rattle.service.specs.declared.categories.Category.TheVariants.{Blank as BlankFrame}
+use Rattle.service.specs.Categories.{category_of}
+use Rattle.service.specs.declared.refusals.Refusal.{Refusal}
+use Rattle.lsp.specs.States.{InRange, fresh}
+use Rattle.law.specs.Arrivals.{Arrival, are_bytes, are_lawful, is_lawful}
+use Rattle.law.specs.Ends.{Receiver, Taken, Takes, new_receiver, new_sender}
+use Rattle.law.specs.Sending.{Parameters, drawn}
+use Rattle.law.specs.Links.{Accepts, Disturbable, Line, Link, Sent, Supply, this_line, another, TakesFromSupply, arrival_sent, line_left, link_after_take, supply_left, to_come, to_come_from, with_waiting}
+use Rattle.law.specs.Runs.{Call, Send, Blank, Disturb, Take, RestartSender, RestartReceiver, Moment, New, Run, Step, most_places, now}
+use Rattle.law.proofs.Numbers.{push_length}
+use Rattle.law.proofs.Sent.{lawful_of, sent_lawful}
+use Rattle.law.proofs.Steps.{blank_refused}
+
+lawful_push : (list : List Arrival) (a : Arrival) → are_lawful list ≡ true → is_lawful a ≡ true → are_lawful (list ++ (a ∷ [])) ≡ true
+unfolding are_lawful
+lawful_push [] a h l = rw l refl
+lawful_push (x ∷ xs) a h l = let (x_is, xs_are) = and_parts (is_lawful x) (are_lawful xs) h in rw (x_is, lawful_push xs a xs_are l) refl
+
+lawful_set : (list : List Arrival) (i : ℕ) (a : Arrival) → are_lawful list ≡ true → is_lawful a ≡ true → are_lawful (set list i a) ≡ true
+unfolding are_lawful
+lawful_set [] i a h l = refl
+lawful_set (x ∷ xs) zero a h l = let (x_is, xs_are) = and_parts (is_lawful x) (are_lawful xs) h in rw (l, xs_are) refl
+lawful_set (x ∷ xs) (suc i) a h l = let (x_is, xs_are) = and_parts (is_lawful x) (are_lawful xs) h in rw (x_is, lawful_set xs i a xs_are l) refl
+
+lawful_rest : (a : Arrival) (list : List Arrival) → are_lawful (a ∷ list) ≡ true → are_lawful list ≡ true
+unfolding are_lawful
+lawful_rest a list h = (and_parts (is_lawful a) (are_lawful list) h).1
+
+pub lawful_first : (a : Arrival) (list : List Arrival) → are_lawful (a ∷ list) ≡ true → is_lawful a ≡ true
+unfolding are_lawful
+lawful_first a list h = (and_parts (is_lawful a) (are_lawful list) h).0
+
+set_length : {A : Type 0} (list : List A) (i : ℕ) (a : A) → length (set list i a) ≡ length list
+set_length [] i a = refl
+set_length (x ∷ xs) zero a = refl
+set_length (x ∷ xs) (suc i) a = ap suc (set_length xs i a)
+
+pub record LineKept (line : Line) : Type 0 where
+  pub places : line.places ≤ most_places
+  pub fits : length line.waiting ≤ line.places
+  pub waiting : are_lawful line.waiting ≡ true
+
+-- the arrivals that another supply has to come are lawful
+pub SupplyKept : Supply → Type 0
+SupplyKept this_line = Unit {0}
+SupplyKept (another list) = are_lawful list ≡ true
+
+pub record ArrivalsKept (s : Link) : Type 0 where
+  pub line : LineKept s.line
+  pub supply : SupplyKept s.supply
+
+pub to_come_kept : (supply : Supply) (line : Line) → LineKept line → SupplyKept supply → are_lawful (to_come_from supply line) ≡ true
+unfolding SupplyKept
+to_come_kept this_line line k l = k.waiting
+to_come_kept (another list) line k l = l
+
+pub supply_kept : (supply : Supply) (line : Line) → are_lawful (to_come_from supply line) ≡ true → SupplyKept supply
+unfolding SupplyKept
+supply_kept this_line line h = tt
+supply_kept (another list) line h = h
+
+line_pushed : (line : Line) (a : Arrival) → length line.waiting < line.places → is_lawful a ≡ true → LineKept line → LineKept (with_waiting (line.waiting ++ (a ∷ [])) line)
+line_pushed line a room lawful k = record {
+  places = k.places;
+  fits = omega (arith, push_length line.waiting a);
+  waiting = lawful_push line.waiting a k.waiting lawful;
+}
+
+line_set : (line : Line) (i : ℕ) (a : Arrival) → is_lawful a ≡ true → LineKept line → LineKept (with_waiting (set line.waiting i a) line)
+line_set line i a lawful k = record {
+  places = k.places;
+  fits = omega (arith, set_length line.waiting i a, k.fits);
+  waiting = lawful_set line.waiting i a k.waiting lawful;
+}
+
+-- what is left once the first was taken
+left_kept : (supply : Supply) (line : Line) (a : Arrival) (rest : List Arrival) → to_come_from supply line ≡ a ∷ rest → LineKept line → SupplyKept supply
+    → LineKept (line_left supply rest line) × SupplyKept (supply_left supply rest)
+unfolding SupplyKept
+left_kept this_line line a rest e k l =
+    let long = ap length e in
+    (record { places = k.places; fits = omega (arith, long, k.fits); waiting = lawful_rest a rest (subst (λ l. are_lawful l ≡ true) e k.waiting) }, tt)
+left_kept (another list) line a rest e k l = (k, lawful_rest a rest (subst (λ l. are_lawful l ≡ true) e l))
+
+none_left : (supply : Supply) (line : Line) (rest : List Arrival) → to_come_from supply line ≡ [] → rest ≡ [] → LineKept line → SupplyKept supply
+    → LineKept (line_left supply rest line) × SupplyKept (supply_left supply rest)
+unfolding SupplyKept
+none_left this_line line rest e r k l =
+    (record { places = k.places; fits = (let z = ap length r in omega arith); waiting = subst (λ l. are_lawful l ≡ true) (e ∙ sym r) k.waiting }, tt)
+none_left (another list) line rest e r k l = (k, subst (λ l. are_lawful l ≡ true) (e ∙ sym r) l)
+
+disturbed_lawful : (s : Link) (n c : ℕ) (bytes : List ℕ) → are_bytes bytes ≡ true → Disturbable s n c bytes → is_lawful (record { category = category_of c; bytes = bytes }) ≡ true
+disturbed_lawful s n c bytes b d = rw (d.size, d.spare, b) refl
+
+pub blank_lawful : is_lawful (record { category = BlankFrame; bytes = [] }) ≡ true
+unfolding are_bytes
+blank_lawful = refl
+
+pub step_keeps : (s t : Link) (c : Call) → Step s c t → ArrivalsKept s → ArrivalsKept t
+step_keeps s t (Send n p (Ok f)) h k =
+    subst ArrivalsKept (sym h.2) (record { line = line_pushed s.line (arrival_sent f) h.1.ready.1 (sent_lawful s n p f h.1) k.line; supply = k.supply })
+step_keeps s t (Send n p (Err e)) h k = subst ArrivalsKept (sym h.2) k
+step_keeps s t (Blank (Ok u)) h k = subst ArrivalsKept (sym h.1) (record { line = line_pushed s.line (record { category = BlankFrame; bytes = [] }) h.0 blank_lawful k.line; supply = k.supply })
+step_keeps s t (Blank (Err e)) h k = subst ArrivalsKept (sym (blank_refused s t e h)) k
+step_keeps s t (Disturb n c bytes (Ok u)) h k =
+    subst ArrivalsKept (sym h.2) (record { line = line_set s.line (n - 1) _ (disturbed_lawful s n c bytes h.0 h.1) k.line; supply = k.supply })
+step_keeps s t (Disturb n c bytes (Err e)) h k = subst ArrivalsKept (sym h.2) k
+step_keeps s t (Take (Some x)) h k =
+    let (line, supply) = left_kept s.supply s.line x.arrival (to_come t) h.0.first k.line k.supply in
+    subst ArrivalsKept (sym h.1) (record { line = line; supply = supply })
+step_keeps s t (Take None) h k =
+    let (line, supply) = none_left s.supply s.line (to_come t) h.0.0 h.0.1 k.line k.supply in
+    subst ArrivalsKept (sym h.1) (record { line = line; supply = supply })
+step_keeps s t RestartSender h k = subst ArrivalsKept (sym h) (record { line = k.line; supply = k.supply })
+step_keeps s t RestartReceiver h k = subst ArrivalsKept (sym h) (record { line = k.line; supply = k.supply })
+
+pub arrivals_kept : (s : Link) (h : List Moment) → New s → Run s h → ArrivalsKept (now s h)
+arrivals_kept s [] new r = record {
+  line = record { places = new.places; fits = new.fits; waiting = new.waiting };
+  supply = supply_kept s.supply s.line new.supply;
+}
+arrivals_kept s (m ∷ h) new r = step_keeps (now s h) m.link m.call r.0 (arrivals_kept s h new r.1)
+
+-- ---- the seed
+
+drawn_lt : (n seed : ℕ) → seed < 65536 → drawn n seed < 65536
+unfolding drawn
+drawn_lt zero seed h = h
+drawn_lt (suc n) seed h = omega arith
+
+pub seed_step : (s t : Link) (c : Call) → Step s c t → s.sender.seed < 65536 → t.sender.seed < 65536
+seed_step s t (Send n p (Ok f)) h k = let e = ap (λ l. l.sender.seed) h.2 in omega (arith, e, drawn_lt f.draws s.sender.seed k)
+seed_step s t (Send n p (Err e)) h k = subst (λ l. l.sender.seed < 65536) (sym h.2) k
+seed_step s t (Blank (Ok u)) h k = subst (λ l. l.sender.seed < 65536) (sym h.1) k
+seed_step s t (Blank (Err e)) h k = subst (λ l. l.sender.seed < 65536) (sym (blank_refused s t e h)) k
+seed_step s t (Disturb n c bytes (Ok u)) h k = subst (λ l. l.sender.seed < 65536) (sym h.2) k
+seed_step s t (Disturb n c bytes (Err e)) h k = subst (λ l. l.sender.seed < 65536) (sym h.2) k
+seed_step s t (Take x) h k = subst (λ l. l.sender.seed < 65536) (sym h.1) k
+seed_step s t RestartSender h k = let e = ap (λ l. l.sender.seed) h in omega (arith, e)
+seed_step s t RestartReceiver h k = subst (λ l. l.sender.seed < 65536) (sym h) k
+
+pub seed_kept : (s : Link) (h : List Moment) → New s → Run s h → (now s h).sender.seed < 65536
+seed_kept s [] new r = let e = ap (λ k. k.seed) new.sender in omega (arith, e)
+seed_kept s (m ∷ h) new r = seed_step (now s h) m.link m.call r.0 (seed_kept s h new r.1)

@@ -1,0 +1,12 @@
+pub mod Numbers
+pub mod Steps
+pub mod Sent
+pub mod Keeping
+pub mod Facts
+pub mod Changes
+pub mod Guarding
+pub mod Corrected
+pub mod Timeline
+pub mod Agreement
+pub mod Marks
+pub mod Every

@@ -1,0 +1,102 @@
+-- What an accepted send sends: codes of its rate, and their packet, which is lawful.
+use Rattle.std.proofs.Common.{◌≡◌, ℕ, zero, suc, ◌+◌, ◌-◌, ◌*◌, ◌^◌, ◌<◌, ◌≤◌, Bool, true, false, not, nat_lt, ◌&&◌, ◌==◌, List, [], ◌∷◌, length, slice_index, ℤ, pos, Some, None, refl, sym, ap, ◌∙◌, subst, inl, inr, arith}
+use Rattle.std.proofs.lemmas.Bool.{cond-true, and_parts}
+use Rattle.std.proofs.lemmas.Bool.Decides.{nat_tests}
+use Rattle.std.proofs.lemmas.Nat.{pow_pos}
+use Rattle.service.specs.declared.rates.Rate.{Rate}
+use Rattle.service.specs.declared.rates.Rate.TheVariants.{Full, Half, Quarter, Eighth}
+use Rattle.service.specs.Categories.{category_is, category_of}
+use Rattle.service.specs.Rates.{rate_is}
+use Rattle.service.specs.Tests.{spare_bits_set, wrong_length}
+use Rattle.lsp.specs.Quantizers.{Within as LspWithin, quantized, top_code}
+use Rattle.lsp.proofs.Ranges.{quantized_within}
+use Rattle.lsp.specs.Ten.{ten}
+use Rattle.packet_layout.specs.declared.code_bits.CodeName.TheVariants.{Lsp, Cbseed}
+use Rattle.packet_layout.specs.CodeBits.{Fits, bits_at, width}
+use Rattle.packet.specs.declared.codes.CodeNumbers.{CodeNumbers}
+use Rattle.packet.specs.Bits.{bit}
+use Rattle.packet.specs.Calls.{Lawful, packet}
+use Rattle.packet.specs.Codes.{Within}
+use Rattle.packet.proofs.Numbers.{bit_lt}
+use Rattle.packet.proofs.Packets.{each_bit}
+use Rattle.packet.proofs.Trips.{unpacking_returns}
+use Rattle.figures.proofs.Frames.{encoded_codes_fit}
+use Rattle.law.specs.Arrivals.{Arrival, are_bytes, is_lawful}
+use Rattle.law.specs.Sending.{Draws, Encodes, Parameters, cbseed_of, drawn}
+use Rattle.law.specs.Links.{Accepts, Link, Sent, arrival_sent}
+use Rattle.law.proofs.Steps.{lsp_bits, top_is}
+
+-- ten values are ten
+pub ten_length : {A : Type 0} (f : ℕ → A) → length (ten f) ≡ 10
+unfolding ten
+ten_length f = refl
+
+lsp_fits : (rate : Rate) (codes : List ℕ) → length codes ≡ 10 → LspWithin rate codes → Fits rate Lsp codes
+lsp_fits rate codes long within i lt =
+    let w = within i (omega arith) in
+    omega (arith, w, ap (λ n. 2 ^ n) (lsp_bits rate i (omega arith)), top_is rate)
+
+-- CBSEED is within its width
+cbseed_lt : (seed : ℕ) → cbseed_of seed < 16
+cbseed_lt seed = omega (arith, bit_lt seed 15, bit_lt seed 11, bit_lt seed 7, bit_lt seed 3)
+
+none_fits : (rate : Rate) (n : ℕ) → n ≡ 0 → Fits rate Cbseed (n ∷ [])
+none_fits rate n e zero lt = let p = pow_pos (bits_at rate Cbseed 0) in omega arith
+none_fits rate n e (suc i) lt = absurd (omega arith)
+
+seed_fits : (n : ℕ) → n < 16 → Fits Eighth Cbseed (n ∷ [])
+seed_fits n h zero lt = h
+seed_fits n h (suc i) lt = absurd (omega arith)
+
+cbseed_fits : (rate : Rate) (c : CodeNumbers) (seed n : ℕ) → Draws rate c seed n → Fits rate Cbseed (c.cbseed ∷ [])
+cbseed_fits Full c seed n h = none_fits Full c.cbseed h.1
+cbseed_fits Half c seed n h = none_fits Half c.cbseed h.1
+cbseed_fits Quarter c seed n h = none_fits Quarter c.cbseed h.1
+cbseed_fits Eighth c seed n h = seed_fits c.cbseed (omega (arith, h.1, cbseed_lt (drawn n seed)))
+
+-- the codes of allowed parameters are codes of the rate
+pub codes_within : (rate : Rate) (p : Parameters) (m : List ℤ) (c : CodeNumbers) → Encodes rate p m c → Fits rate Cbseed (c.cbseed ∷ []) → Within rate c
+codes_within rate p m c e seed =
+    let pitch = encoded_codes_fit.pitch rate p.pitches _ e.pitch in
+    let codebook = encoded_codes_fit.codebook rate p.codebooks _ e.codebook in
+    let long : length c.lsp ≡ 10 = ap length e.lsp ∙ ten_length _ in
+    record {
+      sized = record { lsp = long; plag = e.pitch.plag_length; pgain = e.pitch.pgain_length; cbindex = e.codebook.cbindex_length; cbgain = e.codebook.cbgain_length };
+      lsp = lsp_fits rate c.lsp long (quantized_within rate _ c.lsp e.lsp);
+      plag = pitch.plag;
+      pgain = pitch.pgain;
+      cbindex = codebook.cbindex;
+      cbgain = codebook.cbgain;
+      cbseed = seed;
+    }
+
+pub sent_within : (s : Link) (n : ℕ) (p : Parameters) (f : Sent) → Accepts s n p f → Within f.rate f.codes
+sent_within s n p f a = codes_within f.rate p s.sender.memories f.codes a.codes (cbseed_fits f.rate f.codes s.sender.seed f.draws a.draws)
+
+-- ---- its packet
+
+pub are_bytes_of : (xs : List ℕ) → ((j : ℕ) → slice_index xs j < 256) → are_bytes xs ≡ true
+unfolding are_bytes
+are_bytes_of [] h = refl
+are_bytes_of (x ∷ xs) h = let a : nat_lt x 256 ≡ true = (let l = h 0 in grind (arith, nat_tests)) in let b = are_bytes_of xs (λ j. h (suc j)) in rw (a, b) refl
+
+pub lawful_of : (category : _) (bytes : List ℕ) → length bytes ≡ (category_is category).bytes → spare_bits_set category bytes ≡ false → are_bytes bytes ≡ true
+    → is_lawful (record { category = category; bytes = bytes }) ≡ true
+lawful_of category bytes long spare each =
+    let size : (length bytes == (category_is category).bytes) ≡ true = grind (arith, nat_tests) in
+    rw (size, spare, each) refl
+
+category_bytes : (rate : Rate) → (category_is (category_of (rate_is rate).number)).bytes ≡ (rate_is rate).bytes
+category_bytes Full = refl
+category_bytes Half = refl
+category_bytes Quarter = refl
+category_bytes Eighth = refl
+
+pub packet_lawful : (rate : Rate) (c : CodeNumbers) → Within rate c → is_lawful (record { category = category_of (rate_is rate).number; bytes = packet rate c }) ≡ true
+packet_lawful rate c within =
+    let l = (unpacking_returns rate c within).lawful in
+    lawful_of (category_of (rate_is rate).number) (packet rate c) (l.length ∙ sym (category_bytes rate)) l.spare (are_bytes_of (packet rate c) (each_bit rate c).bytes)
+
+pub sent_lawful : (s : Link) (n : ℕ) (p : Parameters) (f : Sent) → Accepts s n p f → is_lawful (arrival_sent f) ≡ true
+sent_lawful s n p f a =
+    subst (λ b. is_lawful (record { category = category_of (rate_is f.rate).number; bytes = b }) ≡ true) (sym a.bytes) (packet_lawful f.rate f.codes (sent_within s n p f a))

@@ -1,0 +1,117 @@
+-- What each step does to the memories of each end.
+use Rattle.std.proofs.Common.{◌≡◌, ℕ, ◌+◌, ◌-◌, ◌*◌, ◌^◌, ◌<◌, ◌≤◌, List, [], ◌∷◌, ◌++◌, length, Option, Some, None, Ok, Err, Result, ℤ, pos, nat_lt, refl, sym, ap, ◌∙◌, subst, inl, inr, arith}
+use Rattle.service.specs.declared.rates.Rate.{Rate}
+use Rattle.service.specs.declared.rates.Rate.TheVariants.{Full as Rate1, Half as Rate1/2, Quarter as Rate1/4, Eighth as Rate1/8}
+use Rattle.service.specs.declared.categories.Category.{Category}
+use Rattle.service.specs.declared.categories.Category.TheVariants.{Blank as BlankFrame, Eighth, Quarter, Half, Full, Suspect, Erasure}
+use Rattle.service.specs.declared.readings.Letter.{Letter}
+use Rattle.service.specs.declared.readings.Letter.TheVariants.{C, P, S, D, B, E}
+use Rattle.service.specs.declared.refusals.Refusal.{Refusal}
+use Rattle.service.specs.declared.refusals.Refusal.TheVariants.{Faulty, Frequency, Pitch, Codebook, Draws as AllOnesDrawn, LineFull, NoArrival, ShortBuffer, Codes, UnlawfulReel}
+use Rattle.lsp.specs.Histories.{Event, Lawful, after}
+use Rattle.lsp.specs.Quantizers.{top_code, Within as LspWithin}
+use Rattle.lsp.proofs.Ranges.{quantized_within}
+use Rattle.packet_layout.specs.declared.code_bits.CodeName.TheVariants.{Lsp}
+use Rattle.packet_layout.specs.CodeBits.{bits_at, width}
+use Rattle.std.proofs.lemmas.Bool.{cond-true}
+use Rattle.std.proofs.lemmas.Bool.Decides.{nat_tests}
+use Rattle.packet.specs.declared.codes.CodeNumbers.{CodeNumbers}
+use Rattle.packet.specs.Codes.{Within}
+use Rattle.packet.specs.Calls.{Holds, packet}
+use Rattle.law.specs.GuardedBits.{corrected_packet}
+use Rattle.law.specs.Readings.{Reading, Reads, event_of, packet_read}
+use Rattle.law.specs.Ends.{Receiver, Taken, Takes}
+use Rattle.law.specs.Sending.{Parameters}
+use Rattle.law.specs.Links.{Link, Sent, Sends, Blanks, Disturbs, TakesFromSupply, link_after_take, to_come}
+use Rattle.law.specs.Runs.{Call, Send, Blank, Disturb, Take, RestartSender, RestartReceiver, Step, Side, the_sender, the_receiver, events_of_part, sender_part, receiver_part, sent_event, taken_event}
+
+none_some : {A : Type 0} {x : A} → Some x ≡ None → ⊥
+none_some e = cc
+
+-- the LSP codes of a record are within their rate
+pub lsp_bits : (rate : Rate) (i : ℕ) → i < 10 → bits_at rate Lsp i ≡ width rate Lsp
+lsp_bits rate i lt = cond-true (nat_lt i 10) (width rate Lsp) 0 (grind (arith, nat_tests))
+
+pub top_is : (rate : Rate) → 2 ^ width rate Lsp ≡ top_code rate + 1
+top_is Rate1 = refl
+top_is Rate1/2 = refl
+top_is Rate1/4 = refl
+top_is Rate1/8 = refl
+
+pub lsp_within : (rate : Rate) (c : CodeNumbers) → Within rate c → LspWithin rate c.lsp
+lsp_within rate c w i lt =
+    let f = w.lsp i (omega (arith, w.sized.lsp)) in
+    omega (arith, f, ap (λ n. 2 ^ n) (lsp_bits rate i lt), top_is rate)
+
+-- what is read is a record of codes of its rate
+pub read_within : (category : Category) (bytes : List ℕ) (l : Letter) (r : Reading) → Reads category bytes l (Some r) → Within r.rate r.codes
+read_within BlankFrame bytes l r h = absurd (none_some h.1)
+read_within Eighth bytes l r (inl h) = absurd (none_some h.1.1)
+read_within Eighth bytes l r (inr h) = subst (λ q. Within q r.codes) (sym h.1.1.0.rate) h.1.1.0.codes.within
+read_within Quarter bytes l r h = subst (λ q. Within q r.codes) (sym h.1.0.rate) h.1.0.codes.within
+read_within Half bytes l r h = subst (λ q. Within q r.codes) (sym h.1.0.rate) h.1.0.codes.within
+read_within Full bytes l r (inl h) = subst (λ q. Within q r.codes) (sym h.1.1.0.rate) h.1.1.0.codes.within
+read_within Full bytes l r (inr h) = absurd (none_some h.1.1)
+read_within Suspect bytes l r (inl h) = subst (λ q. Within q r.codes) (sym h.1.1.0.rate) h.1.1.0.codes.within
+read_within Suspect bytes l r (inr (inl h)) = subst (λ q. Within q r.codes) (sym h.2.1.0.rate) h.2.1.0.codes.within
+read_within Suspect bytes l r (inr (inr h)) = absurd (none_some h.2.1)
+read_within Erasure bytes l r h = absurd (none_some h.1)
+
+lawful_packet : (category : Category) (bytes : List ℕ) (l : Letter) (x : Option Reading) → Reads category bytes l x → Lawful (packet_read x ∷ [])
+lawful_packet category bytes l (Some r) h = (lsp_within r.rate r.codes (read_within category bytes l r h), tt)
+lawful_packet category bytes l None h = tt
+
+lawful_reading : (category : Category) (bytes : List ℕ) (l : Letter) (x : Option Reading) → Reads category bytes l x → Lawful (event_of l x ∷ [])
+lawful_reading category bytes C x h = lawful_packet category bytes C x h
+lawful_reading category bytes P x h = lawful_packet category bytes P x h
+lawful_reading category bytes S x h = lawful_packet category bytes S x h
+lawful_reading category bytes D x h = tt
+lawful_reading category bytes B x h = tt
+lawful_reading category bytes E x h = tt
+
+-- a step moves an end's memories by what it is to the end, and that is lawful
+pub record Moves {A : Type 0} (side : Side A) (s : Link) (c : Call) (t : Link) : Type 0 where
+  pub moved : side.memories t ≡ after (side.memories s) (events_of_part side.event (side.part c))
+  pub lawful : Lawful (events_of_part side.event (side.part c))
+
+-- a blank that is refused alters nothing
+pub blank_refused : (s t : Link) (e : Refusal) → Blanks s (Err e) t → t ≡ s
+blank_refused s t LineFull h = h.1
+blank_refused s t (Faulty f) h = absurd h
+blank_refused s t (Frequency i) h = absurd h
+blank_refused s t (Pitch i) h = absurd h
+blank_refused s t (Codebook i) h = absurd h
+blank_refused s t AllOnesDrawn h = absurd h
+blank_refused s t NoArrival h = absurd h
+blank_refused s t ShortBuffer h = absurd h
+blank_refused s t Codes h = absurd h
+blank_refused s t UnlawfulReel h = absurd h
+
+pub sender_moves : (s t : Link) (c : Call) → Step s c t → Moves the_sender s c t
+sender_moves s t (Send n p (Ok f)) h = record {
+  moved = ap (λ l. l.sender.memories) h.2;
+  lawful = (quantized_within f.rate _ f.codes.lsp h.1.codes.lsp, tt);
+}
+sender_moves s t (Send n p (Err e)) h = record { moved = ap (λ l. l.sender.memories) h.2; lawful = tt }
+sender_moves s t (Blank (Ok u)) h = record { moved = ap (λ l. l.sender.memories) h.1; lawful = tt }
+sender_moves s t (Blank (Err e)) h = record { moved = ap (λ l. l.sender.memories) (blank_refused s t e h); lawful = tt }
+sender_moves s t (Disturb n c bytes (Ok u)) h = record { moved = ap (λ l. l.sender.memories) h.2; lawful = tt }
+sender_moves s t (Disturb n c bytes (Err e)) h = record { moved = ap (λ l. l.sender.memories) h.2; lawful = tt }
+sender_moves s t (Take x) h = record { moved = ap (λ l. l.sender.memories) h.1; lawful = tt }
+sender_moves s t RestartSender h = record { moved = ap (λ l. l.sender.memories) h; lawful = tt }
+sender_moves s t RestartReceiver h = record { moved = ap (λ l. l.sender.memories) h; lawful = tt }
+
+pub receiver_moves : (s t : Link) (c : Call) → Step s c t → Moves the_receiver s c t
+receiver_moves s t (Send n p (Ok f)) h = record { moved = ap (λ l. l.receiver.memories) h.2; lawful = tt }
+receiver_moves s t (Send n p (Err e)) h = record { moved = ap (λ l. l.receiver.memories) h.2; lawful = tt }
+receiver_moves s t (Blank (Ok u)) h = record { moved = ap (λ l. l.receiver.memories) h.1; lawful = tt }
+receiver_moves s t (Blank (Err e)) h = record { moved = ap (λ l. l.receiver.memories) (blank_refused s t e h); lawful = tt }
+receiver_moves s t (Disturb n c bytes (Ok u)) h = record { moved = ap (λ l. l.receiver.memories) h.2; lawful = tt }
+receiver_moves s t (Disturb n c bytes (Err e)) h = record { moved = ap (λ l. l.receiver.memories) h.2; lawful = tt }
+receiver_moves s t (Take (Some x)) h = record {
+  moved = ap (λ r. r.memories) h.0.receiver;
+  lawful = lawful_reading x.arrival.category x.arrival.bytes x.letter x.reading h.0.read;
+}
+receiver_moves s t (Take None) h = record { moved = ap (λ r. r.memories) h.0.2; lawful = tt }
+receiver_moves s t RestartSender h = record { moved = ap (λ l. l.receiver.memories) h; lawful = tt }
+receiver_moves s t RestartReceiver h = record { moved = ap (λ l. l.receiver.memories) h; lawful = tt }

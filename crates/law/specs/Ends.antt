@@ -1,0 +1,48 @@
+-- The two ends of a link, and what a take does. Assumes nothing.
+use Rattle.std.specs.Prelude.{◌≡◌, ℕ, List, [], ◌∷◌, ℤ, Some, None, Option}
+use Rattle.service.specs.declared.readings.Letter.{Letter}
+use Rattle.lsp.specs.Histories.{after}
+use Rattle.lsp.specs.States.{fresh, frequencies}
+use Rattle.law.specs.Arrivals.{Arrival}
+use Rattle.law.specs.Readings.{Reading, Reads, event_of, no_pitch, pitch_after}
+
+-- a receiver: ten LSP memories in grains, and the pitch pair of its last pitch subframe
+pub record Receiver : Type 0 where
+  pub memories : List ℤ
+  pub pitch : ℕ × ℕ
+
+-- a sender has the seed SD too
+pub record Sender : Type 0 where
+  pub memories : List ℤ
+  pub pitch : ℕ × ℕ
+  pub seed : ℕ
+
+-- new, or just restarted
+abbrev pub new_receiver : Receiver
+new_receiver = record { memories = fresh; pitch = no_pitch }
+
+abbrev pub new_sender : Sender
+new_sender = record { memories = fresh; pitch = no_pitch; seed = 0 }
+
+-- what was taken and what take answers: the letter, the ten frequencies, and what was read
+pub record Taken : Type 0 where
+  pub arrival : Arrival
+  pub letter : Letter
+  pub frequencies : List ℤ
+  pub reading : Option Reading
+
+-- the receiver after it read an arrival
+abbrev pub receiver_after : Letter → Option Reading → Receiver → Receiver
+receiver_after l x e = record { memories = after e.memories (event_of l x ∷ []); pitch = pitch_after l x e.pitch }
+
+-- a receiver e takes the first arrival of a supply, reads it, and answers the frequencies of its memories after it
+pub record TakesOne (e : Receiver) (supply : List Arrival) (x : Taken) (e' : Receiver) (rest : List Arrival) : Type 0 where
+  pub first : supply ≡ x.arrival ∷ rest
+  pub read : Reads x.arrival.category x.arrival.bytes x.letter x.reading
+  pub receiver : e' ≡ receiver_after x.letter x.reading e
+  pub answer : x.frequencies ≡ frequencies e'.memories
+
+-- of an empty supply it takes nothing, and nothing is altered
+abbrev pub Takes : Receiver → List Arrival → Option Taken → Receiver → List Arrival → Type 0
+Takes e supply (Some x) e' rest = TakesOne e supply x e' rest
+Takes e supply None e' rest = (supply ≡ []) × (rest ≡ []) × (e' ≡ e)

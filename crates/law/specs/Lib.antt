@@ -1,0 +1,13 @@
+pub mod GuardedBits
+pub mod Words
+pub mod Arrivals
+pub mod Readings
+pub mod Ends
+pub mod Sending
+pub mod Links
+pub mod Rows
+pub mod Runs
+pub mod Law
+pub mod Answers
+pub mod Marks
+pub mod Example

@@ -1,0 +1,117 @@
+-- How an arrival is read (IS-96, A.1.4.8.6), and what it does to the receiver. Assumes nothing.
+use Rattle.std.specs.Prelude.{◌≡◌, ◌≢◌, ◌⊎◌, ℕ, ◌-◌, ◌<◌, min, List, Some, None, Option, MatchOption, replicate}
+use Rattle.service.specs.declared.rates.Rate.{Rate}
+use Rattle.service.specs.declared.rates.Rate.TheVariants.{Full as Rate1, Half as Rate1/2, Quarter as Rate1/4, Eighth as Rate1/8}
+use Rattle.service.specs.declared.categories.Category.{Category}
+use Rattle.service.specs.declared.categories.Category.TheVariants.{Blank, Eighth, Quarter, Half, Full, Suspect, Erasure}
+use Rattle.service.specs.declared.readings.Letter.{Letter}
+use Rattle.service.specs.declared.readings.Letter.TheVariants.{C, P, S, D, B, E}
+use Rattle.service.specs.Rates.{rate_is}
+use Rattle.lsp.specs.Histories.{Event, packet, erasure, blank}
+use Rattle.cyclic.specs.Words.{syndrome, Corrects}
+use Rattle.packet.specs.declared.codes.CodeNumbers.{CodeNumbers}
+use Rattle.packet.specs.Bits.{bit_at}
+use Rattle.packet.specs.Calls.{Holds}
+use Rattle.packet.specs.CheckBits.{word_of}
+use Rattle.figures.specs.declared.codebook.CodebookCodes.{CodebookCodes}
+use Rattle.figures.specs.declared.codebook.CodebookFigure.{CodebookFigure}
+use Rattle.figures.specs.declared.pitch.PitchCodes.{PitchCodes}
+use Rattle.figures.specs.Pitch.{DecodesPitches, pair_at}
+use Rattle.figures.specs.Codebook.{DecodesCodebooks}
+use Rattle.law.specs.GuardedBits.{corrected_packet}
+
+-- what was read of a packet: its rate, its codes, and the pitch pairs and codebook figures that they stand for, of four and
+-- eight subframes, of which the rate may have fewer
+pub record Reading : Type 0 where
+  pub rate : Rate
+  pub codes : CodeNumbers
+  pub pitches : List (ℕ × ℕ)
+  pub codebooks : List (Option CodebookFigure)
+
+-- the pitch codes and the codebook codes of a frame
+abbrev pub pitch_codes : CodeNumbers → PitchCodes
+pitch_codes c = record { plag = c.plag; pgain = c.pgain }
+
+abbrev pub codebook_codes : CodeNumbers → CodebookCodes
+codebook_codes c = record { cbindex = c.cbindex; cbgain = c.cbgain }
+
+-- pitch off: lag 16 and gain 0, in a subframe and in a frame
+abbrev pub no_pitch : ℕ × ℕ
+no_pitch = (16, 0)
+
+abbrev pub pitch_off : List (ℕ × ℕ)
+pitch_off = replicate 4 no_pitch
+
+-- all but the pitch of what these bytes are read as
+pub record ReadsCodes (q : Rate) (bytes : List ℕ) (r : Reading) : Type 0 where
+  pub rate : r.rate ≡ q
+  pub codes : Holds q bytes r.codes
+  pub codebooks : DecodesCodebooks q (codebook_codes r.codes) r.codebooks
+
+-- read with this letter; with the pitch of the codes, or with pitch off
+abbrev pub IsRead : Letter → Rate → List ℕ → Letter → Option Reading → Type 0
+IsRead letter rate bytes l x =
+    (l ≡ letter) × MatchOption x ⊥ (λ r. ReadsCodes rate bytes r × DecodesPitches rate (pitch_codes r.codes) r.pitches)
+
+abbrev pub IsReadWithPitchOff : Letter → List ℕ → Letter → Option Reading → Type 0
+IsReadWithPitchOff letter bytes l x =
+    (l ≡ letter) × MatchOption x ⊥ (λ r. ReadsCodes Rate1 bytes r × (r.pitches ≡ pitch_off))
+
+-- not read, with this letter
+abbrev pub IsNotRead : Letter → Letter → Option Reading → Type 0
+IsNotRead letter l x = (l ≡ letter) × (x ≡ None)
+
+-- all bits of a packet are ones
+abbrev pub AllOnes : Rate → List ℕ → Type 0
+AllOnes rate bytes = (k : ℕ) → k < (rate_is rate).bits → bit_at bytes k ≡ 1
+
+-- the letter, and what is read, of an arrival of each category
+abbrev pub Reads : Category → List ℕ → Letter → Option Reading → Type 0
+Reads Blank bytes l x = IsNotRead B l x
+Reads Eighth bytes l x = (AllOnes Rate1/8 bytes × IsNotRead D l x) ⊎ ((AllOnes Rate1/8 bytes → ⊥) × IsRead C Rate1/8 bytes l x)
+Reads Quarter bytes l x = IsRead C Rate1/4 bytes l x
+Reads Half bytes l x = IsRead C Rate1/2 bytes l x
+Reads Full bytes l x =
+    ((syndrome (word_of bytes) ≡ 0) × IsRead C Rate1 bytes l x) ⊎ ((syndrome (word_of bytes) ≢ 0) × IsNotRead D l x)
+Reads Suspect bytes l x =
+    ((syndrome (word_of bytes) ≡ 0) × IsReadWithPitchOff P bytes l x)
+    ⊎ (((p : ℕ) × Corrects (word_of bytes) p × IsReadWithPitchOff S (corrected_packet p bytes) l x)
+    ⊎ ((syndrome (word_of bytes) ≢ 0) × ((p : ℕ) → Corrects (word_of bytes) p → ⊥) × IsNotRead D l x))
+Reads Erasure bytes l x = IsNotRead E l x
+
+-- what happens to the receiver's memories: C, P and S are read, B is a blank, and any other letter is an erasure
+abbrev pub packet_read : Option Reading → Event
+packet_read (Some r) = packet r.rate r.codes.lsp
+packet_read None = erasure  -- with these three letters there is always something read
+
+abbrev pub event_of : Letter → Option Reading → Event
+event_of C x = packet_read x
+event_of P x = packet_read x
+event_of S x = packet_read x
+event_of D x = erasure
+event_of B x = blank
+event_of E x = erasure
+
+-- the pair of the last pitch subframe; Rate 1/8 has none, and its pitch is off
+abbrev pub last_pitch : Rate → List (ℕ × ℕ) → ℕ × ℕ
+last_pitch Rate1/8 pairs = no_pitch
+last_pitch Rate1/4 pairs = pair_at pairs ((rate_is Rate1/4).pitch_subframes - 1)
+last_pitch Rate1/2 pairs = pair_at pairs ((rate_is Rate1/2).pitch_subframes - 1)
+last_pitch Rate1 pairs = pair_at pairs ((rate_is Rate1).pitch_subframes - 1)
+
+-- a blank keeps the lag, and lowers a gain above 4, which is 1, to 4
+abbrev pub lowered : ℕ × ℕ → ℕ × ℕ
+lowered (lag, gain) = (lag, min gain 4)
+
+-- the receiver's pitch pair after it
+abbrev pub pitch_read : Option Reading → ℕ × ℕ
+pitch_read (Some r) = last_pitch r.rate r.pitches
+pitch_read None = no_pitch
+
+abbrev pub pitch_after : Letter → Option Reading → ℕ × ℕ → ℕ × ℕ
+pitch_after C x pair = pitch_read x
+pitch_after P x pair = pitch_read x
+pitch_after S x pair = pitch_read x
+pitch_after D x pair = no_pitch
+pitch_after B x pair = lowered pair
+pitch_after E x pair = no_pitch

@@ -1,0 +1,54 @@
+-- The rows of a page, and a run of takes that queues them. Assumes nothing.
+use Rattle.std.specs.Prelude.{◌≡◌, ℕ, ◌<◌, ◌≤◌, List, [], ◌∷◌, ◌++◌, length, map, take, ℤ, Some, None, Option}
+use Rattle.service.specs.declared.readings.Letter.{Letter}
+use Rattle.service.specs.declared.readings.RunEnd.{RunEnd}
+use Rattle.service.specs.declared.readings.RunEnd.TheVariants.{Wanted, RowsFull, SupplyEmpty}
+use Rattle.service.specs.Rates.{rate_is}
+use Rattle.law.specs.Arrivals.{Arrival}
+use Rattle.law.specs.Readings.{Reading}
+use Rattle.law.specs.Ends.{Receiver, Taken, TakesOne, new_receiver}
+
+-- a row, but for the frame's number, which is given when it is printed: the letter, the ten frequencies, and CBGAIN of each
+-- codebook subframe of the rate; none if nothing was read
+pub record Row : Type 0 where
+  pub letter : Letter
+  pub frequencies : List ℤ
+  pub cbgain : Option (List ℕ)
+
+abbrev pub cbgain_of : Option Reading → Option (List ℕ)
+cbgain_of (Some r) = Some (take (rate_is r.rate).codebook_subframes r.codes.cbgain)
+cbgain_of None = None
+
+abbrev pub row_of : Taken → Row
+row_of x = record { letter = x.letter; frequencies = x.frequencies; cbgain = cbgain_of x.reading }
+
+-- a receiver takes these, one after another
+abbrev pub TakesAll : Receiver → List Arrival → List Taken → Receiver → List Arrival → Type 0
+TakesAll e supply [] e' rest = (e' ≡ e) × (rest ≡ supply)
+TakesAll e supply (x ∷ xs) e' rest = (d : Receiver) × (list : List Arrival) × TakesOne e supply x d list × TakesAll d list xs e' rest
+
+-- what a run answers
+pub record RunAnswer : Type 0 where
+  pub rows : ℕ
+  pub end : RunEnd
+
+-- Why a run ended after n takes, with so many rows queued and these arrivals left: of the three, tested in this order, the
+-- first that holds.
+abbrev pub Ended : RunEnd → (wanted n places queued : ℕ) → List Arrival → Type 0
+Ended Wanted wanted n places queued rest = n ≡ wanted
+Ended RowsFull wanted n places queued rest = (n < wanted) × (queued ≡ places)
+Ended SupplyEmpty wanted n places queued rest = (n < wanted) × (queued < places) × (rest ≡ [])
+
+-- a run of a receiver e that has this supply and a queue of rows with so many places
+pub record Runs (wanted places : ℕ) (e : Receiver) (supply : List Arrival) (queue : List Row) (a : RunAnswer) (e' : Receiver) (rest : List Arrival) (queue' : List Row) : Type 0 where
+  pub taken : List Taken
+  pub takes : TakesAll e supply taken e' rest
+  pub queued : queue' ≡ queue ++ map row_of taken
+  pub fits : length queue' ≤ places
+  pub counted : a.rows ≡ length taken
+  pub wanted_at_most : length taken ≤ wanted
+  pub ended : Ended a.end wanted (length taken) places (length queue') rest
+
+-- the rows of the page of a reel whose arrivals these are: the receiver is restarted, and takes them all
+abbrev pub PageRows : List Arrival → List Row → Type 0
+PageRows supply rows = (xs : List Taken) × (e : Receiver) × TakesAll new_receiver supply xs e [] × (rows ≡ map row_of xs)
