@@ -1,19 +1,18 @@
 -- Two ends that were fed the same 256 packets in a row.
-use Rattle.std.proofs.Common.{◌≡◌, ℕ, zero, suc, ◌+◌, ◌<◌, ◌≤◌, List, [], ◌∷◌, ◌++◌, length, Option, Some, None, MatchOption, true, ℤ, pos, refl, sym, ap, ap₂, ◌∙◌, subst, inl, inr, arith}
+use Rattle.std.proofs.Common.{◌≡◌, ℕ, zero, suc, ◌+◌, ◌≤◌, List, [], ◌∷◌, ◌++◌, length, Option, Some, None, MatchOption, true, ℤ, sym, ap, ap₂, ◌∙◌, subst, arith}
 use Rattle.service.specs.declared.readings.Letter.{Letter}
 use Rattle.service.specs.declared.readings.Letter.TheVariants.{C, P, S, D, B, E}
 use Rattle.service.specs.Letters.{is_read}
-use Rattle.lsp.specs.Histories.{Event, Lawful, after, packet, without_blanks}
+use Rattle.lsp.specs.Histories.{Event, after, packet, without_blanks}
 use Rattle.lsp.specs.Laws.{Agree}
 use Rattle.lsp.specs.States.{fresh}
 use Rattle.lsp.proofs.Runs.{ends_agree}
 use Rattle.law.specs.Readings.{Reading, event_of, packet_read}
 use Rattle.law.specs.Ends.{Taken}
-use Rattle.law.specs.Links.{Link, Sent}
+use Rattle.law.specs.Links.{Sent}
 use Rattle.law.specs.Runs.{Frame, Moment, arrivals_taken, frames_sent, sent_event, taken_event}
 use Rattle.law.specs.Law.{InARow, IsReadAsSent, IsSent, IsTaken, ReadAsSent, numbered, one_if_packet, packets, packets_in}
-use Rattle.law.proofs.Numbers.{none_some, same_some}
-use Rattle.law.proofs.Timeline.{Since, Spans, event_at, span}
+use Rattle.law.proofs.Timeline.{Spans, event_at, span}
 
 -- what is read as sent is the same to both ends
 packet_event : (f : Sent) (o : Option Reading) → MatchOption o ⊥ (λ r. (r.rate ≡ f.rate) × (r.codes.lsp ≡ f.codes.lsp)) → packet f.rate f.codes.lsp ≡ packet_read o

@@ -10,7 +10,7 @@ use Rattle.service.specs.declared.rates.Rate.TheVariants.{Full as Rate1}
 use Rattle.service.specs.declared.categories.Category.TheVariants.{Full, Suspect}
 use Rattle.service.specs.Tests.{spare_bits_set, wrong_length}
 use Rattle.cyclic.specs.Polynomials.{rem}
-use Rattle.cyclic.specs.Words.{Corrects, RightCheckBits, cyclic_bits, parity, sent, syndrome}
+use Rattle.cyclic.specs.Words.{Corrects, RightCheckBits, cyclic_bits, parity, syndrome}
 use Rattle.cyclic.proofs.Changes.{cyclic_bits-corrected, ones_both, ones_pow}
 use Rattle.cyclic.proofs.Linear.{rem-xor}
 use Rattle.cyclic.proofs.Readings.{points_not_zero}

@@ -1,18 +1,12 @@
 -- Every run keeps the law.
-use Rattle.std.proofs.Common.{◌≡◌, ℕ, ◌+◌, ◌<◌, ◌≤◌, ◌⊎◌, true, List, [], ◌∷◌, ◌++◌, length, Some, None, Option, ℤ, pos, refl, sym, ap, ◌∙◌, subst, arith}
-use Rattle.service.specs.declared.rates.Rate.TheVariants.{Full as Rate1}
-use Rattle.service.specs.declared.categories.Category.TheVariants.{Full, Suspect}
+use Rattle.std.proofs.Common.{◌≡◌, ℕ, List, [], ◌∷◌, ◌++◌, length, refl, sym, ap, ◌∙◌, subst}
 use Rattle.lsp.specs.Histories.{Event, after, blank, erasure, packet as packet_event, restart}
-use Rattle.lsp.specs.States.{InRange, fresh}
-use Rattle.packet.specs.Calls.{packet}
+use Rattle.lsp.specs.States.{fresh}
 use Rattle.packet.specs.Codes.{Within}
-use Rattle.law.specs.Arrivals.{is_lawful}
-use Rattle.law.specs.GuardedBits.{changed_guarded}
-use Rattle.law.specs.Readings.{Reads}
 use Rattle.law.specs.Ends.{Taken}
-use Rattle.law.specs.Links.{Link, Sent, to_come}
-use Rattle.law.specs.Runs.{Call, Frame, Moment, New, Run, Step, arrivals_taken, frames_sent, now, past, sent_event, taken_event, the_receiver, the_sender}
-use Rattle.law.specs.Law.{Carried, EveryRun, EveryStepCarries, FewChanges, GuardedBitsHold, Law, RunsJoin}
+use Rattle.law.specs.Links.{Link, Sent}
+use Rattle.law.specs.Runs.{Moment, New, Run, Step, now, past, the_receiver, the_sender}
+use Rattle.law.specs.Law.{EveryRun, EveryStepCarries, FewChanges, GuardedBitsHold, Law, RunsJoin}
 use Rattle.law.specs.Answers.{EveryLinkKeeps, Kept}
 use Rattle.law.proofs.Agreement.{agree}
 use Rattle.law.proofs.Facts.{IsPacket, WasRead, packet_facts, sent_facts, taken_facts}

@@ -1,5 +1,5 @@
 -- What is known of each frame sent and of each arrival taken.
-use Rattle.std.proofs.Common.{◌≡◌, ℕ, zero, suc, ◌+◌, ◌<◌, ◌≤◌, true, List, [], ◌∷◌, ◌++◌, length, Ok, Err, Result, Some, None, Option, ℤ, refl, sym, ap, ◌∙◌, subst, inl, inr, arith}
+use Rattle.std.proofs.Common.{◌≡◌, ℕ, zero, suc, true, List, [], ◌∷◌, ◌++◌, Ok, Err, Some, None, Option, ℤ, sym, ap, subst, inl, inr}
 use Rattle.packet.specs.Calls.{packet}
 use Rattle.packet.specs.Codes.{Within}
 use Rattle.law.specs.Arrivals.{are_lawful, is_lawful}

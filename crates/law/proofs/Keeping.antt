@@ -1,18 +1,14 @@
 -- What every link keeps: the places of its line, and lawful arrivals.
-use Rattle.std.proofs.Common.{◌≡◌, ℕ, zero, suc, ◌+◌, ◌-◌, ◌*◌, ◌%◌, ◌<◌, ◌≤◌, Bool, true, false, not, ◌&&◌, ◌==◌, List, [], ◌∷◌, ◌++◌, length, set, Ok, Err, Result, ℤ, pos, Some, None, Option, refl, sym, ap, ap₂, ◌∙◌, subst, inl, inr, arith}
+use Rattle.std.proofs.Common.{◌≡◌, ℕ, zero, suc, ◌-◌, ◌<◌, ◌≤◌, true, List, [], ◌∷◌, ◌++◌, length, set, Ok, Err, Some, None, refl, sym, ap, ◌∙◌, subst, arith}
 use Rattle.std.proofs.lemmas.Bool.{and_parts}
-use Rattle.std.proofs.lemmas.List.{length-append}
 use Rattle.service.specs.declared.categories.Category.TheVariants.{Blank as BlankFrame}
 use Rattle.service.specs.Categories.{category_of}
-use Rattle.service.specs.declared.refusals.Refusal.{Refusal}
-use Rattle.lsp.specs.States.{InRange, fresh}
 use Rattle.law.specs.Arrivals.{Arrival, are_bytes, are_lawful, is_lawful}
-use Rattle.law.specs.Ends.{Receiver, Taken, Takes, new_receiver, new_sender}
-use Rattle.law.specs.Sending.{Parameters, drawn}
-use Rattle.law.specs.Links.{Accepts, Disturbable, Line, Link, Sent, Supply, this_line, another, TakesFromSupply, arrival_sent, line_left, link_after_take, supply_left, to_come, to_come_from, with_waiting}
+use Rattle.law.specs.Sending.{drawn}
+use Rattle.law.specs.Links.{Disturbable, Line, Link, Supply, this_line, another, arrival_sent, line_left, supply_left, to_come, to_come_from, with_waiting}
 use Rattle.law.specs.Runs.{Call, Send, Blank, Disturb, Take, RestartSender, RestartReceiver, Moment, New, Run, Step, most_places, now}
 use Rattle.law.proofs.Numbers.{push_length}
-use Rattle.law.proofs.Sent.{lawful_of, sent_lawful}
+use Rattle.law.proofs.Sent.{sent_lawful}
 use Rattle.law.proofs.Steps.{blank_refused}
 
 lawful_push : (list : List Arrival) (a : Arrival) → are_lawful list ≡ true → is_lawful a ≡ true → are_lawful (list ++ (a ∷ [])) ≡ true

@@ -8,5 +8,16 @@ pub mod Guarding
 pub mod Corrected
 pub mod Timeline
 pub mod Agreement
+pub mod Silent
+pub mod Exchanges
 pub mod Marks
 pub mod Every
+pub mod Filled
+pub mod Searches
+pub mod OneReading
+pub mod Encoded
+pub mod Once
+pub mod OneSend
+pub mod OneTake
+pub mod OneAnswer
+pub mod OneRun

@@ -1,19 +1,25 @@
 -- The worked examples, computed.
-use Rattle.std.proofs.Common.{◌≡◌, ℕ, zero, suc, ◌<◌, ◌%◌, ◌^◌, true, List, [], ◌∷◌, ◌++◌, replicate, ℤ, pos, negsuc, Some, None, Option, refl, arith}
+use Rattle.std.proofs.Common.{◌≡◌, ℕ, Bool, ◌&&◌, eqb, subst, ◌<◌, ◌%◌, ◌^◌, true, [], ◌∷◌, ◌++◌, replicate, pos, negsuc, Some, None, refl, arith}
 use Rattle.service.specs.declared.rates.Rate.{Rate}
 use Rattle.service.specs.declared.rates.Rate.TheVariants.{Full, Half, Quarter, Eighth}
 use Rattle.lsp.specs.Decay.{decay}
-use Rattle.lsp.specs.Quantizers.{code_of, value_of}
+use Rattle.lsp.specs.Quantizers.{Within as LspWithin, code_of, value_of}
 use Rattle.cyclic.specs.Words.{sent}
-use Rattle.cyclic.specs.Polynomials.{rem, rem_in}
+use Rattle.cyclic.specs.Polynomials.{rem}
 use Rattle.packet.specs.Bits.{packet_of, byte_of, carried, number_of}
 use Rattle.packet.specs.CheckBits.{message_of}
 use Rattle.packet.specs.Codes.{in_order}
-use Rattle.packet_layout.specs.Guarded.{guarded_code_bits}
+use Rattle.packet_layout.specs.Guarded.{guarded_bits, guarded_code_bits}
 use Rattle.packet_layout.specs.Layouts.{layout}
 use Rattle.figures.specs.Codebook.{figure_of_codes, sends_index_and_sign}
 use Rattle.law.specs.Sending.{cbseed_of, drawn}
-use Rattle.law.specs.Marks.{WorkedExamples, only_cbgain8, packet_of_zeros}
+use Rattle.law.specs.Marks.{SuspectGets, WorkedExamples, only_cbgain8, packet_of_zeros}
+use Rattle.law.specs.GuardedBits.{bit_of_power, with_bit_changed}
+use Rattle.law.proofs.Silent.{reads_both_changed, reads_corrected, reads_pcb0_changed, silent_reading, silent_within, zero_at}
+use Rattle.service.proofs.Computed.{all_at}
+use Rattle.service.specs.declared.readings.Letter.TheVariants.{P, S, D}
+use Rattle.std.proofs.lemmas.Bool.{and_parts, eqb-true}
+use Rattle.packet.specs.Codes.{Within}
 
 decays : (decay (pos 16) ≡ pos 15) × (decay (negsuc 15) ≡ negsuc 13) × (decay (negsuc 0) ≡ negsuc 0)
 unfolding decay
@@ -41,5 +47,37 @@ check_bits : sent (message_of (in_order (only_cbgain8 0b010))) % 2 ^ 11 ≡ 0b11
 unfolding number_of message_of guarded_code_bits rem lib.Count.ones
 check_bits = refl
 
-code_of_zero : (i : ℕ) → i < 10 → (code_of Eighth i (pos 0) ≡ 1) × (code_of Eighth i (negsuc 0) ≡ 0)
-code_of_zero = ?
+-- at Rate 1/8, of each LSP
+abbrev codes_at_zero : ℕ → Bool
+codes_at_zero i = eqb (code_of Eighth i (pos 0)) 1 && eqb (code_of Eighth i (negsuc 0)) 0
+
+codes : (i : ℕ) → i < 10 → (code_of Eighth i (pos 0) ≡ 1) × (code_of Eighth i (negsuc 0) ≡ 0)
+codes i h =
+    let both = and_parts (eqb (code_of Eighth i (pos 0)) 1) (eqb (code_of Eighth i (negsuc 0)) 0) (all_at codes_at_zero 10 i refl h) in
+    (eqb-true (code_of Eighth i (pos 0)) 1 both.0, eqb-true (code_of Eighth i (negsuc 0)) 0 both.1)
+
+within : Within Full (only_cbgain8 0)
+within = silent_within (replicate 10 0) refl zeros_within
+  where
+    zeros_within : LspWithin Full (replicate 10 0)
+    zeros_within i h = omega (arith, zero_at 10 i)
+
+-- bit 87 is x^10 of the 28
+bit_87 : bit_of_power 10 ≡ 87
+unfolding guarded_bits
+bit_87 = refl
+
+pub worked_examples : WorkedExamples
+worked_examples = record {
+  decays = decays;
+  values = values;
+  codes = codes;
+  seed = seed;
+  zeros = zeros;
+  check_bits = check_bits;
+  indexes = indexes;
+  suspect =
+      let low : 10 < 28 = omega arith in
+      subst (λ n. SuspectGets S (with_bit_changed n packet_of_zeros) × SuspectGets P (with_bit_changed 0 packet_of_zeros) × SuspectGets D (with_bit_changed 0 (with_bit_changed n packet_of_zeros))) bit_87
+      ((Some (silent_reading (replicate 10 0)), reads_corrected (replicate 10 0) within 10 low), (Some (silent_reading (replicate 10 0)), reads_pcb0_changed (replicate 10 0) within), (None, reads_both_changed (replicate 10 0) within 10 low));
+}

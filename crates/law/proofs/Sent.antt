@@ -1,27 +1,25 @@
 -- What an accepted send sends: codes of its rate, and their packet, which is lawful.
-use Rattle.std.proofs.Common.{◌≡◌, ℕ, zero, suc, ◌+◌, ◌-◌, ◌*◌, ◌^◌, ◌<◌, ◌≤◌, Bool, true, false, not, nat_lt, ◌&&◌, ◌==◌, List, [], ◌∷◌, length, slice_index, ℤ, pos, Some, None, refl, sym, ap, ◌∙◌, subst, inl, inr, arith}
-use Rattle.std.proofs.lemmas.Bool.{cond-true, and_parts}
+use Rattle.std.proofs.Common.{◌≡◌, ℕ, zero, suc, ◌^◌, ◌<◌, true, false, nat_lt, ◌==◌, List, [], ◌∷◌, length, slice_index, ℤ, refl, sym, ap, ◌∙◌, subst, arith}
 use Rattle.std.proofs.lemmas.Bool.Decides.{nat_tests}
 use Rattle.std.proofs.lemmas.Nat.{pow_pos}
 use Rattle.service.specs.declared.rates.Rate.{Rate}
 use Rattle.service.specs.declared.rates.Rate.TheVariants.{Full, Half, Quarter, Eighth}
 use Rattle.service.specs.Categories.{category_is, category_of}
 use Rattle.service.specs.Rates.{rate_is}
-use Rattle.service.specs.Tests.{spare_bits_set, wrong_length}
-use Rattle.lsp.specs.Quantizers.{Within as LspWithin, quantized, top_code}
+use Rattle.service.specs.Tests.{spare_bits_set}
+use Rattle.lsp.specs.Quantizers.{Within as LspWithin}
 use Rattle.lsp.proofs.Ranges.{quantized_within}
 use Rattle.lsp.specs.Ten.{ten}
 use Rattle.packet_layout.specs.declared.code_bits.CodeName.TheVariants.{Lsp, Cbseed}
-use Rattle.packet_layout.specs.CodeBits.{Fits, bits_at, width}
+use Rattle.packet_layout.specs.CodeBits.{Fits, bits_at}
 use Rattle.packet.specs.declared.codes.CodeNumbers.{CodeNumbers}
-use Rattle.packet.specs.Bits.{bit}
-use Rattle.packet.specs.Calls.{Lawful, packet}
+use Rattle.packet.specs.Calls.{packet}
 use Rattle.packet.specs.Codes.{Within}
 use Rattle.packet.proofs.Numbers.{bit_lt}
 use Rattle.packet.proofs.Packets.{each_bit}
 use Rattle.packet.proofs.Trips.{unpacking_returns}
 use Rattle.figures.proofs.Frames.{encoded_codes_fit}
-use Rattle.law.specs.Arrivals.{Arrival, are_bytes, is_lawful}
+use Rattle.law.specs.Arrivals.{are_bytes, is_lawful}
 use Rattle.law.specs.Sending.{Draws, Encodes, Parameters, cbseed_of, drawn}
 use Rattle.law.specs.Links.{Accepts, Link, Sent, arrival_sent}
 use Rattle.law.proofs.Steps.{lsp_bits, top_is}
@@ -31,7 +29,7 @@ pub ten_length : {A : Type 0} (f : ℕ → A) → length (ten f) ≡ 10
 unfolding ten
 ten_length f = refl
 
-lsp_fits : (rate : Rate) (codes : List ℕ) → length codes ≡ 10 → LspWithin rate codes → Fits rate Lsp codes
+pub lsp_fits : (rate : Rate) (codes : List ℕ) → length codes ≡ 10 → LspWithin rate codes → Fits rate Lsp codes
 lsp_fits rate codes long within i lt =
     let w = within i (omega arith) in
     omega (arith, w, ap (λ n. 2 ^ n) (lsp_bits rate i (omega arith)), top_is rate)

@@ -1,5 +1,5 @@
 -- What each step does to the memories of each end.
-use Rattle.std.proofs.Common.{◌≡◌, ℕ, ◌+◌, ◌-◌, ◌*◌, ◌^◌, ◌<◌, ◌≤◌, List, [], ◌∷◌, ◌++◌, length, Option, Some, None, Ok, Err, Result, ℤ, pos, nat_lt, refl, sym, ap, ◌∙◌, subst, inl, inr, arith}
+use Rattle.std.proofs.Common.{◌≡◌, ℕ, ◌+◌, ◌^◌, ◌<◌, List, [], ◌∷◌, Option, Some, None, Ok, Err, nat_lt, refl, sym, ap, subst, inl, inr, arith}
 use Rattle.service.specs.declared.rates.Rate.{Rate}
 use Rattle.service.specs.declared.rates.Rate.TheVariants.{Full as Rate1, Half as Rate1/2, Quarter as Rate1/4, Eighth as Rate1/8}
 use Rattle.service.specs.declared.categories.Category.{Category}
@@ -8,7 +8,7 @@ use Rattle.service.specs.declared.readings.Letter.{Letter}
 use Rattle.service.specs.declared.readings.Letter.TheVariants.{C, P, S, D, B, E}
 use Rattle.service.specs.declared.refusals.Refusal.{Refusal}
 use Rattle.service.specs.declared.refusals.Refusal.TheVariants.{Faulty, Frequency, Pitch, Codebook, Draws as AllOnesDrawn, LineFull, NoArrival, ShortBuffer, Codes, UnlawfulReel}
-use Rattle.lsp.specs.Histories.{Event, Lawful, after}
+use Rattle.lsp.specs.Histories.{Lawful, after}
 use Rattle.lsp.specs.Quantizers.{top_code, Within as LspWithin}
 use Rattle.lsp.proofs.Ranges.{quantized_within}
 use Rattle.packet_layout.specs.declared.code_bits.CodeName.TheVariants.{Lsp}
@@ -17,13 +17,9 @@ use Rattle.std.proofs.lemmas.Bool.{cond-true}
 use Rattle.std.proofs.lemmas.Bool.Decides.{nat_tests}
 use Rattle.packet.specs.declared.codes.CodeNumbers.{CodeNumbers}
 use Rattle.packet.specs.Codes.{Within}
-use Rattle.packet.specs.Calls.{Holds, packet}
-use Rattle.law.specs.GuardedBits.{corrected_packet}
 use Rattle.law.specs.Readings.{Reading, Reads, event_of, packet_read}
-use Rattle.law.specs.Ends.{Receiver, Taken, Takes}
-use Rattle.law.specs.Sending.{Parameters}
-use Rattle.law.specs.Links.{Link, Sent, Sends, Blanks, Disturbs, TakesFromSupply, link_after_take, to_come}
-use Rattle.law.specs.Runs.{Call, Send, Blank, Disturb, Take, RestartSender, RestartReceiver, Step, Side, the_sender, the_receiver, events_of_part, sender_part, receiver_part, sent_event, taken_event}
+use Rattle.law.specs.Links.{Link, Blanks}
+use Rattle.law.specs.Runs.{Call, Send, Blank, Disturb, Take, RestartSender, RestartReceiver, Step, Side, the_sender, the_receiver, events_of_part}
 
 none_some : {A : Type 0} {x : A} → Some x ≡ None → ⊥
 none_some e = cc

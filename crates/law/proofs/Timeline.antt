@@ -1,14 +1,13 @@
 -- One end over a whole run: its memories, and what happened to them between two of its frames.
-use Rattle.std.proofs.Common.{◌≡◌, ℕ, zero, suc, ◌+◌, ◌<◌, ◌≤◌, List, [], ◌∷◌, ◌++◌, length, Option, Some, None, ℤ, pos, refl, sym, ap, ap₂, ◌∙◌, subst, zero-add, ◌⊎◌, inl, inr, arith}
+use Rattle.std.proofs.Common.{◌≡◌, ℕ, zero, suc, ◌+◌, ◌≤◌, List, [], ◌∷◌, ◌++◌, length, Option, Some, None, ℤ, sym, ap, ap₂, ◌∙◌, subst, zero-add, inl, inr, arith}
 use Rattle.lsp.specs.Histories.{Event, Lawful, after, packet, erasure, blank, restart}
-use Rattle.lsp.specs.Laws.{WithinRounding}
 use Rattle.lsp.specs.States.{InRange, fresh}
 use Rattle.lsp.proofs.Runs.{after-++, rounding, stays_in_range}
 use Rattle.lsp.proofs.Ranges.{fresh_in}
 use Rattle.law.specs.Links.{Link}
 use Rattle.law.specs.Runs.{Call, Frame, Moment, Part, frame, restarts, nothing, Run, Side, Step, events_of_part, frame_of_part, frames, now, past, restarts_in, restarts_of_part}
 use Rattle.law.specs.Law.{Rounded, numbered}
-use Rattle.law.proofs.Numbers.{append_nil, new_number, number_in, number_push, old_number, push_length, same_some}
+use Rattle.law.proofs.Numbers.{append_nil, new_number, number_in, number_push, old_number, push_length}
 use Rattle.law.proofs.Steps.{Moves}
 
 pub lawful-++ : (a b : List Event) → Lawful a → Lawful b → Lawful (a ++ b)

@@ -1,5 +1,5 @@
 -- Every call has an answer on every input, and only one; and what every link keeps. Assumes nothing.
-use Rattle.std.specs.Prelude.{◌≡◌, ℕ, ◌<◌, ◌≤◌, true, is_some, List, length, map, ℤ, Option}
+use Rattle.std.specs.Prelude.{◌≡◌, ℕ, ◌<◌, ◌≤◌, true, is_some, List, length, map, Option}
 use Rattle.service.specs.declared.categories.Category.{Category}
 use Rattle.service.specs.declared.readings.Letter.{Letter}
 use Rattle.service.specs.Letters.{is_read}

@@ -1,5 +1,5 @@
 -- Arrivals: what a receiver takes from a supply. Assumes nothing.
-use Rattle.std.specs.Prelude.{◌≡◌, ℕ, Bool, true, not, ◌&&◌, List, [], ◌∷◌, length, nat_lt}
+use Rattle.std.specs.Prelude.{ℕ, Bool, true, not, ◌&&◌, List, [], ◌∷◌, length, nat_lt}
 use Rattle.service.specs.declared.categories.Category.{Category}
 use Rattle.service.specs.Tests.{wrong_length, spare_bits_set}
 

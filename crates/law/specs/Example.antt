@@ -1,5 +1,5 @@
 -- That the law speaks of something: a run in which all that it names occurs. Assumes nothing.
-use Rattle.std.specs.Prelude.{◌≡◌, ◌≢◌, ℕ, ◌+◌, ◌<◌, ◌≤◌, List, ℤ, pos, Some, None, Option, MatchOption, slice_index_or}
+use Rattle.std.specs.Prelude.{◌≡◌, ◌≢◌, ℕ, List, pos, None, Option, MatchOption, slice_index_or}
 use Rattle.service.specs.declared.categories.Category.TheVariants.{Suspect}
 use Rattle.service.specs.declared.readings.Letter.{Letter}
 use Rattle.service.specs.declared.readings.Letter.TheVariants.{B, P, S, D}

@@ -1,5 +1,5 @@
 -- The law of the link. Assumes nothing.
-use Rattle.std.specs.Prelude.{◌≡◌, ◌↔◌, ◌⊎◌, ℕ, zero, suc, ◌+◌, ◌<◌, ◌≤◌, true, false, List, [], ◌∷◌, ◌++◌, ℤ, pos, Some, None, Option, MatchOption, slice_get, slice_index_or}
+use Rattle.std.specs.Prelude.{◌≡◌, ◌↔◌, ◌⊎◌, ℕ, zero, suc, ◌+◌, ◌<◌, ◌≤◌, true, false, List, ◌∷◌, ◌++◌, ℤ, pos, Some, None, Option, MatchOption, slice_get, slice_index_or}
 use Rattle.service.specs.declared.rates.Rate.TheVariants.{Full as Rate1}
 use Rattle.service.specs.declared.categories.Category.TheVariants.{Full, Suspect}
 use Rattle.service.specs.declared.readings.Letter.TheVariants.{B, D}
@@ -7,7 +7,6 @@ use Rattle.service.specs.Letters.{is_read}
 use Rattle.lsp.specs.Histories.{Event}
 use Rattle.lsp.specs.Laws.{Agree, WithinRounding}
 use Rattle.law.specs.GuardedBits.{SameGuardedCodeBits, changed_besides_pcb0, changed_guarded}
-use Rattle.law.specs.Readings.{Reading}
 use Rattle.law.specs.Ends.{Taken}
 use Rattle.law.specs.Links.{Link, Sent}
 use Rattle.law.specs.Runs.{Call, Frame, Moment, New, Run, Step, arrivals_taken, frames_sent, now, past, the_receiver, the_sender}

@@ -18,7 +18,7 @@ use Rattle.figures.specs.Pitch.{RefusesPitches}
 use Rattle.law.specs.Arrivals.{Arrival, are_bytes}
 use Rattle.law.specs.Readings.{last_pitch, lowered}
 use Rattle.law.specs.Ends.{Receiver, Sender, Taken, Takes, new_receiver, new_sender}
-use Rattle.law.specs.Sending.{AreComplete, CodebooksAllowed, Draws, Encodes, FrequenciesAllowed, NoDraw, Parameters, PitchesAllowed, RefusesFrequencies, drawn}
+use Rattle.law.specs.Sending.{AreComplete, Draws, Encodes, FrequenciesAllowed, NoDraw, Parameters, PitchesAllowed, RefusesFrequencies, drawn}
 
 -- a line: the arrivals that wait on it, the oldest first, and how many it has places for
 pub record Line : Type 0 where

@@ -1,5 +1,5 @@
 -- Worked examples of the rules, about the definitions that the contracts cite. Assumes nothing.
-use Rattle.std.specs.Prelude.{◌≡◌, ℕ, ◌%◌, ◌^◌, ◌<◌, true, List, [], ◌∷◌, ◌++◌, replicate, ℤ, pos, negsuc, Some, None, Option}
+use Rattle.std.specs.Prelude.{◌≡◌, ℕ, ◌%◌, ◌^◌, ◌<◌, true, List, [], ◌∷◌, ◌++◌, replicate, pos, negsuc, Some, Option}
 use Rattle.service.specs.declared.rates.Rate.{Rate}
 use Rattle.service.specs.declared.rates.Rate.TheVariants.{Full, Eighth}
 use Rattle.service.specs.declared.categories.Category.TheVariants.{Suspect}
@@ -54,4 +54,4 @@ pub record WorkedExamples : Type 0 where
   -- the packet of all codes 0 as suspect: bit 87 changed gives S, bit 0 changed gives P, both changed give D
   pub suspect :
       SuspectGets S (with_bit_changed 87 packet_of_zeros) × SuspectGets P (with_bit_changed 0 packet_of_zeros)
-      × SuspectGets D (with_bit_changed 87 (with_bit_changed 0 packet_of_zeros))
+      × SuspectGets D (with_bit_changed 0 (with_bit_changed 87 packet_of_zeros))

@@ -2,10 +2,10 @@
 use Rattle.std.specs.Prelude.{◌≡◌, ℕ, ◌+◌, ◌≤◌, true, List, [], ◌∷◌, ◌++◌, length, ℤ, Ok, Err, Some, None, Option, Result}
 use Rattle.service.specs.declared.refusals.Refusal.{Refusal}
 use Rattle.lsp.specs.Histories.{Event, blank, packet, restart}
-use Rattle.law.specs.Arrivals.{are_bytes, are_lawful}
+use Rattle.law.specs.Arrivals.{are_lawful}
 use Rattle.law.specs.Readings.{event_of}
 use Rattle.law.specs.Ends.{Taken, new_receiver, new_sender}
-use Rattle.law.specs.Sending.{AreComplete, Parameters}
+use Rattle.law.specs.Sending.{Parameters}
 use Rattle.law.specs.Links.{Blanks, Disturbs, Link, Sends, Sent, TakesFromSupply, link_after_receiver_restart, link_after_sender_restart, to_come}
 
 -- a call, with what it was given and what it answered

@@ -1,5 +1,5 @@
 -- What a change of a packet's bits is in its word. Assumes nothing.
-use Rattle.std.specs.Prelude.{◌≡◌, ◌≢◌, ℕ, ◌-◌, ◌<◌, List, length, bit_xor}
+use Rattle.std.specs.Prelude.{◌≡◌, ◌≢◌, ℕ, ◌<◌, List, length, bit_xor}
 use Rattle.service.specs.declared.rates.Rate.TheVariants.{Full}
 use Rattle.service.specs.Rates.{rate_is}
 use Rattle.cyclic.specs.Words.{corrected, cyclic_bits, differing}

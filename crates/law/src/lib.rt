@@ -3,6 +3,7 @@
 
 ghost use Rattle.law.specs.Words.{ChangesOfWords};
 ghost use Rattle.law.specs.Law.{EveryRun, EveryStepCarries, RunsJoin};
+ghost use Rattle.law.specs.Marks.{WorkedExamples};
 ghost use Rattle.law.specs.Answers.{EachTakeIsACall, EveryLinkKeeps, OneAnswerToEachCall, OneAnswerToEachRun, OneReadingOfEachArrival};
 
 /// Carries a theorem: every run of calls from a new link keeps the law.
@@ -35,4 +36,34 @@ pub fn every_link_keeps()
 #[tactic(auto, using(crate::proofs::Changes::changes_of_words))]
 pub fn changes_of_words()
     ensures { ChangesOfWords }
+{}
+
+/// Carries a theorem: eight worked examples of the rules.
+#[tactic(auto, using(crate::proofs::Marks::worked_examples))]
+pub fn worked_examples()
+    ensures { WorkedExamples }
+{}
+
+/// Carries a theorem: every arrival is read in exactly one way, whatever its bytes.
+#[tactic(auto, using(crate::proofs::OneReading::one_reading))]
+pub fn one_reading()
+    ensures { OneReadingOfEachArrival }
+{}
+
+/// Carries a theorem: every call has exactly one answer on every input, and leaves exactly one link.
+#[tactic(auto, using(crate::proofs::OneAnswer::one_answer))]
+pub fn one_answer()
+    ensures { OneAnswerToEachCall }
+{}
+
+/// Carries a theorem: every run of takes has exactly one answer, and leaves exactly one receiver, supply and queue of rows.
+#[tactic(auto, using(crate::proofs::OneRun::one_run))]
+pub fn one_run()
+    ensures { OneAnswerToEachRun }
+{}
+
+/// Carries a theorem: takes one after another on a link are the take calls of a run.
+#[tactic(auto, using(crate::proofs::OneRun::takes_are_calls))]
+pub fn takes_are_calls()
+    ensures { EachTakeIsACall }
 {}

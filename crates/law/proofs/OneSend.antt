@@ -1,0 +1,264 @@
+-- Sending has one answer: the first of its tests that fails, or a packet.
+use Rattle.std.proofs.Common.{◌≡◌, ◌≢◌, ℕ, ◌+◌, ◌<◌, ◌⊎◌, Bool, true, false, List, length, Ok, Err, Result, inl, inr, refl, sym, ap, subst, ◌∙◌, arith}
+use Rattle.std.proofs.lemmas.Bool.{cases_eq, cases_lt, false≢true, false_from_ne_true}
+use Rattle.service.specs.declared.rates.Rate.{Rate}
+use Rattle.service.specs.declared.rates.Rate.TheVariants.{Full, Half, Quarter, Eighth}
+use Rattle.service.specs.declared.refusals.Refusal.{Refusal}
+use Rattle.service.specs.declared.refusals.Refusal.TheVariants.{Faulty, Frequency, Pitch, Codebook, Draws as AllOnesDrawn, LineFull, NoArrival, ShortBuffer, Codes, UnlawfulReel}
+use Rattle.service.specs.Rates.{rate_is}
+use Rattle.service.proofs.Numbers.{distinct_numbers}
+use Rattle.packet.specs.declared.codes.CodeNumbers.{CodeNumbers}
+use Rattle.packet.specs.Calls.{packet}
+use Rattle.figures.specs.Subframes.{FirstToFail}
+use Rattle.figures.specs.Codebook.{codebook_allowed, parameter_at}
+use Rattle.figures.specs.Pitch.{pair_at, pitch_allowed}
+use Rattle.law.specs.Sending.{AreComplete, CodebooksAllowed, Draws, Encodes, FrequenciesAllowed, NoDraw, Parameters, PitchesAllowed, frequency_allowed, frequency_at}
+use Rattle.law.specs.Links.{Accepts, HasRoom, IsFull, Link, Sends, Sent, link_after_send}
+use Rattle.law.proofs.Encoded.{codes_or_none, draws_once, encoded_once, no_draw_made, same_codes, unseeded}
+use Rattle.law.proofs.Once.{Once, either_once, guard_once, leaf_once}
+use Rattle.law.proofs.Searches.{all_or_first, first_once}
+
+-- ---- the first that does not pass
+
+known_true : (b : Bool) → (b ≡ true) ⊎ (b ≡ true → ⊥)
+known_true true = inl refl
+known_true false = inr false≢true
+
+all_or_fails : (passes : ℕ → Bool) (n : ℕ) → ((i : ℕ) → i < n → passes i ≡ true) ⊎ ((i : ℕ) × FirstToFail n passes i)
+all_or_fails passes n = elim (all_or_first (λ k. passes k ≡ true) (λ k. known_true (passes k)) 0 n) [
+  | inl all ↦ inl (λ i h. all i (omega arith) h)
+  | inr (i, l, h, before, fails) ↦ inr (i, record { within = h; fails = false_from_ne_true (passes i) fails; before = λ k less. before k (omega arith) less })
+]
+
+same_fails : (n : ℕ) (passes : ℕ → Bool) (i j : ℕ) → FirstToFail n passes i → FirstToFail n passes j → i ≡ j
+same_fails n passes i j f g =
+    first_once (λ k. passes k ≡ true) 0 i j (omega arith) (omega arith) (λ k l h. f.before k h) (λ t. false≢true (sym f.fails ∙ t))
+    (λ k l h. g.before k h) (λ t. false≢true (sym g.fails ∙ t))
+
+-- ---- rates by their number
+
+rate_or_none : (n : ℕ) → ((rate : Rate) × ((rate_is rate).number ≡ n)) ⊎ ((rate : Rate) → (rate_is rate).number ≢ n)
+rate_or_none n = elim (cases_eq 1 n) [
+  | inl e ↦ inl (Eighth, e)
+  | inr no1 ↦ elim (cases_eq 2 n) [
+    | inl e ↦ inl (Quarter, e)
+    | inr no2 ↦ elim (cases_eq 3 n) [
+      | inl e ↦ inl (Half, e)
+      | inr no3 ↦ elim (cases_eq 4 n) [ inl e ↦ inl (Full, e) | inr no4 ↦ inr (none_of n no1 no2 no3 no4) ]
+    ]
+  ]
+] where
+  none_of : (n : ℕ) → 1 ≢ n → 2 ≢ n → 3 ≢ n → 4 ≢ n → (rate : Rate) → (rate_is rate).number ≢ n
+  none_of n no1 no2 no3 no4 Eighth = no1
+  none_of n no1 no2 no3 no4 Quarter = no2
+  none_of n no1 no2 no3 no4 Half = no3
+  none_of n no1 no2 no3 no4 Full = no4
+
+-- ---- an accepted packet
+
+abbrev sent_of : ℕ → Rate → CodeNumbers → List ℕ → Sent
+sent_of draws rate codes bytes = record { draws = draws; rate = rate; codes = codes; bytes = bytes }
+
+same_sent : (f g : Sent) → f.rate ≡ g.rate → f.codes ≡ g.codes → f.draws ≡ g.draws → f.bytes ≡ packet f.rate f.codes → g.bytes ≡ packet g.rate g.codes → f ≡ g
+same_sent f g rate codes draws bytes bytes' =
+    ap (λ x. sent_of f.draws f.rate f.codes x) bytes
+    ∙ ap (λ x. sent_of x f.rate f.codes (packet f.rate f.codes)) draws
+    ∙ ap (λ x. sent_of g.draws x f.codes (packet x f.codes)) rate
+    ∙ ap (λ x. sent_of g.draws g.rate x (packet g.rate x)) codes
+    ∙ ap (λ x. sent_of g.draws g.rate g.codes x) (sym bytes')
+
+accepted_once : (s : Link) (n : ℕ) (p : Parameters) (f g : Sent) → Accepts s n p f → Accepts s n p g → f ≡ g
+accepted_once s n p f g a b =
+    let rate : f.rate ≡ g.rate = distinct_numbers.rates f.rate g.rate (a.ready.0 ∙ sym b.ready.0) in
+    let e : unseeded f.codes ≡ unseeded g.codes =
+    encoded_once g.rate p s.sender.memories f.codes g.codes (subst (λ r. Encodes r p s.sender.memories f.codes) rate a.codes) b.codes in
+    let d = draws_once g.rate f.codes g.codes s.sender.seed f.draws g.draws e (subst (λ r. Draws r f.codes s.sender.seed f.draws) rate a.draws) b.draws in
+    same_sent f g rate (same_codes f.codes g.codes e d.1) d.0 a.bytes b.bytes
+
+-- ---- the tests, one after another
+
+abbrev pub Outcome : Type 0
+Outcome = Result Sent Refusal × Link
+
+module _ (s : Link) (n : ℕ) (p : Parameters) where
+  -- refused, and the link as it was
+  abbrev refused : Refusal → Outcome
+  refused e = (Err e, s)
+
+  -- the first that fails is named
+  abbrev Fails : (Refusal → Outcome) → ℕ → (ℕ → Bool) → (ℕ → Refusal) → Outcome → Type 0
+  Fails out limit passes refusal x = (i : ℕ) × FirstToFail limit passes i × (x ≡ out (refusal (i + 1)))
+
+  fails_once : (out : Refusal → Outcome) (limit : ℕ) (passes : ℕ → Bool) (refusal : ℕ → Refusal) → Once (Fails out limit passes refusal)
+  fails_once out limit passes refusal x y (i, f, e) (j, g, d) = e ∙ ap (λ k. out (refusal (k + 1))) (same_fails limit passes i j f g) ∙ sym d
+
+  not_passed : (out : Refusal → Outcome) (limit : ℕ) (passes : ℕ → Bool) (refusal : ℕ → Refusal) (x : Outcome) → Fails out limit passes refusal x → ((i : ℕ) → i < limit → passes i ≡ true) → ⊥
+  not_passed out limit passes refusal x (i, f, e) all = false≢true (sym f.fails ∙ all i f.within)
+
+  abbrev NoDrawIsLeft : Rate → Outcome → Type 0
+  NoDrawIsLeft rate x = NoDraw rate p s.sender.memories s.sender.seed × (x ≡ refused AllOnesDrawn)
+
+  abbrev IsSent : Rate → Outcome → Type 0
+  IsSent rate x = (f : Sent) × (f.rate ≡ rate) × Accepts s n p f × (x ≡ (Ok f, link_after_send p f s))
+
+  abbrev AtDraws : Rate → Outcome → Type 0
+  AtDraws rate x = NoDrawIsLeft rate x ⊎ IsSent rate x
+
+  abbrev codebook_passes : Rate → ℕ → Bool
+  codebook_passes rate i = codebook_allowed rate (parameter_at p.codebooks i)
+
+  abbrev pitch_passes : ℕ → Bool
+  pitch_passes i = pitch_allowed (pair_at p.pitches i)
+
+  abbrev frequency_passes : ℕ → Bool
+  frequency_passes i = frequency_allowed (frequency_at p.frequencies i)
+
+  abbrev CodebookFails : Rate → Outcome → Type 0
+  CodebookFails rate x = Fails refused (rate_is rate).codebook_subframes (codebook_passes rate) (λ i. Codebook i) x
+
+  abbrev PitchFails : Rate → Outcome → Type 0
+  PitchFails rate x = Fails refused (rate_is rate).pitch_subframes pitch_passes (λ i. Pitch i) x
+
+  abbrev FrequencyFails : Outcome → Type 0
+  FrequencyFails x = Fails refused 10 frequency_passes (λ i. Frequency i) x
+
+  abbrev AtCodebooks : Rate → Outcome → Type 0
+  AtCodebooks rate x = CodebookFails rate x ⊎ (CodebooksAllowed rate p × AtDraws rate x)
+
+  abbrev AtPitches : Rate → Outcome → Type 0
+  AtPitches rate x = PitchFails rate x ⊎ (PitchesAllowed rate p × AtCodebooks rate x)
+
+  abbrev AtFrequencies : Rate → Outcome → Type 0
+  AtFrequencies rate x = FrequencyFails x ⊎ (FrequenciesAllowed p × AtPitches rate x)
+
+  abbrev AtRoom : Rate → Outcome → Type 0
+  AtRoom rate x = (IsFull s.line × (x ≡ refused LineFull)) ⊎ (HasRoom s.line × AtFrequencies rate x)
+
+  abbrev Named : Outcome → Type 0
+  Named x = (rate : Rate) × ((rate_is rate).number ≡ n) × AtRoom rate x
+
+  abbrev Unnamed : Outcome → Type 0
+  Unnamed x = ((rate : Rate) → (rate_is rate).number ≢ n) × (x ≡ refused Codes)
+
+  -- each of them has one outcome
+  sent_once : (rate : Rate) → Once (IsSent rate)
+  sent_once rate x y (f, r, a, e) (g, q, b, d) = e ∙ ap (λ h. (Ok h, link_after_send p h s)) (accepted_once s n p f g a b) ∙ sym d
+
+  draws_apart : (rate : Rate) (x y : Outcome) → NoDrawIsLeft rate x → IsSent rate y → ⊥
+  draws_apart rate x y (none, e) (f, r, a, d) =
+      no_draw_made rate p s.sender.memories f.codes s.sender.seed f.draws none
+      (subst (λ q. Encodes q p s.sender.memories f.codes) r a.codes) (subst (λ q. Draws q f.codes s.sender.seed f.draws) r a.draws)
+
+  at_draws_once : (rate : Rate) → Once (AtDraws rate)
+  at_draws_once rate =
+      either_once (NoDrawIsLeft rate) (IsSent rate) (draws_apart rate) (leaf_once (NoDraw rate p s.sender.memories s.sender.seed) (refused AllOnesDrawn)) (sent_once rate)
+
+  at_codebooks_once : (rate : Rate) → Once (AtCodebooks rate)
+  at_codebooks_once rate =
+      guard_once (CodebookFails rate) (CodebooksAllowed rate p) (AtDraws rate)
+      (not_passed refused (rate_is rate).codebook_subframes (codebook_passes rate) (λ i. Codebook i))
+      (fails_once refused (rate_is rate).codebook_subframes (codebook_passes rate) (λ i. Codebook i)) (at_draws_once rate)
+
+  at_pitches_once : (rate : Rate) → Once (AtPitches rate)
+  at_pitches_once rate =
+      guard_once (PitchFails rate) (PitchesAllowed rate p) (AtCodebooks rate)
+      (not_passed refused (rate_is rate).pitch_subframes pitch_passes (λ i. Pitch i))
+      (fails_once refused (rate_is rate).pitch_subframes pitch_passes (λ i. Pitch i)) (at_codebooks_once rate)
+
+  at_frequencies_once : (rate : Rate) → Once (AtFrequencies rate)
+  at_frequencies_once rate =
+      guard_once FrequencyFails (FrequenciesAllowed p) (AtPitches rate)
+      (not_passed refused 10 frequency_passes (λ i. Frequency i)) (fails_once refused 10 frequency_passes (λ i. Frequency i)) (at_pitches_once rate)
+
+  at_room_once : (rate : Rate) → Once (AtRoom rate)
+  at_room_once rate =
+      guard_once (λ x. IsFull s.line × (x ≡ refused LineFull)) (HasRoom s.line) (AtFrequencies rate)
+      (λ x full room. let f = full.0 in omega arith) (leaf_once (IsFull s.line) (refused LineFull)) (at_frequencies_once rate)
+
+  named_once : Once Named
+  named_once x y (rate, is, a) (rate', is', b) =
+      at_room_once rate x y a (subst (λ r. AtRoom r y) (distinct_numbers.rates rate' rate (is' ∙ sym is)) b)
+
+  outcome_once : Once (λ x. Unnamed x ⊎ Named x)
+  outcome_once = either_once Unnamed Named (λ x y none named. none.0 named.0 named.1) (leaf_once ((rate : Rate) → (rate_is rate).number ≢ n) (refused Codes)) named_once
+
+  -- what the rules of sending say is one of these
+  is_outcome : (r : Result Sent Refusal) (t : Link) → Sends s n p r t → Unnamed (r, t) ⊎ Named (r, t)
+  is_outcome (Ok f) t (complete, a, e) =
+      inr (f.rate, a.ready.0, inr (a.ready.1, inr (a.frequencies, inr (a.codes.pitch.allowed, inr (a.codes.codebook.allowed, inr (f, refl, a, ap (λ u. (Ok f, u)) e))))))
+  is_outcome (Err Codes) t (complete, none, e) = inl (none, ap (λ u. (Err Codes, u)) e)
+  is_outcome (Err LineFull) t (complete, ((rate, is), full), e) = inr (rate, is, inl (full, ap (λ u. (Err LineFull, u)) e))
+  is_outcome (Err (Frequency i)) t (complete, ((rate, ready), (j, f, is)), e) =
+      inr (rate, ready.0, inr (ready.1, inl (j, f, ap (λ u. (Err (Frequency i), u)) e ∙ ap refused (distinct_numbers.refusals (Frequency i) (Frequency (j + 1)) is))))
+  is_outcome (Err (Pitch i)) t (complete, (rate, ready, frequencies, (j, f, is)), e) =
+      inr (rate, ready.0, inr (ready.1, inr (frequencies, inl (j, f, ap (λ u. (Err (Pitch i), u)) e ∙ ap refused (distinct_numbers.refusals (Pitch i) (Pitch (j + 1)) is)))))
+  is_outcome (Err (Codebook i)) t (complete, (rate, ready, frequencies, pitches, (j, f, is)), e) =
+      inr (rate, ready.0, inr (ready.1, inr (frequencies, inr (pitches, inl (j, f, ap (λ u. (Err (Codebook i), u)) e ∙ ap refused (distinct_numbers.refusals (Codebook i) (Codebook (j + 1)) is))))))
+  is_outcome (Err AllOnesDrawn) t (complete, (rate, ready, frequencies, none), e) =
+      inr (rate, ready.0, inr (ready.1, inr (frequencies, inr (no_draw_pitches rate none, inr (no_draw_codebooks rate none, inl (none, ap (λ u. (Err AllOnesDrawn, u)) e))))))
+    where
+      no_draw_pitches : (rate : Rate) → NoDraw rate p s.sender.memories s.sender.seed → PitchesAllowed rate p
+      no_draw_pitches Eighth (c, e, ones) = e.pitch.allowed
+      no_draw_pitches Quarter none = absurd none
+      no_draw_pitches Half none = absurd none
+      no_draw_pitches Full none = absurd none
+
+      no_draw_codebooks : (rate : Rate) → NoDraw rate p s.sender.memories s.sender.seed → CodebooksAllowed rate p
+      no_draw_codebooks Eighth (c, e, ones) = e.codebook.allowed
+      no_draw_codebooks Quarter none = absurd none
+      no_draw_codebooks Half none = absurd none
+      no_draw_codebooks Full none = absurd none
+  is_outcome (Err (Faulty f)) t (complete, none, e) = absurd none
+  is_outcome (Err NoArrival) t (complete, none, e) = absurd none
+  is_outcome (Err ShortBuffer) t (complete, none, e) = absurd none
+  is_outcome (Err UnlawfulReel) t (complete, none, e) = absurd none
+
+  pub send_once : (r r' : Result Sent Refusal) (t t' : Link) → Sends s n p r t → Sends s n p r' t' → (r ≡ r') × (t ≡ t')
+  send_once r r' t t' a b =
+      let e = outcome_once (r, t) (r', t') (is_outcome r t a) (is_outcome r' t' b) in
+      (ap (λ (x : Outcome). x.0) e, ap (λ (x : Outcome). x.1) e)
+
+  -- ---- and there is one
+
+  HasAnswer : Type 0
+  HasAnswer = (r : Result Sent Refusal) × (t : Link) × Sends s n p r t
+
+  at_draws : AreComplete p → (rate : Rate) → (rate_is rate).number ≡ n → HasRoom s.line → FrequenciesAllowed p → PitchesAllowed rate p → CodebooksAllowed rate p → HasAnswer
+  unfolding HasAnswer
+  at_draws complete rate is room frequencies pitches codebooks = elim (codes_or_none rate p s.sender.memories s.sender.seed complete pitches codebooks) [
+    | inl (c, m, e, d) ↦
+        let f = sent_of m rate c (packet rate c) in
+        (Ok f, link_after_send p f s, (complete, record { ready = (is, room); frequencies = frequencies; codes = e; draws = d; bytes = refl }, refl))
+    | inr none ↦ (Err AllOnesDrawn, s, (complete, (rate, (is, room), frequencies, none), refl))
+  ]
+
+  at_codebooks : AreComplete p → (rate : Rate) → (rate_is rate).number ≡ n → HasRoom s.line → FrequenciesAllowed p → PitchesAllowed rate p → HasAnswer
+  unfolding HasAnswer
+  at_codebooks complete rate is room frequencies pitches = elim (all_or_fails (codebook_passes rate) (rate_is rate).codebook_subframes) [
+    | inl codebooks ↦ at_draws complete rate is room frequencies pitches codebooks
+    | inr (i, f) ↦ (Err (Codebook (i + 1)), s, (complete, (rate, (is, room), frequencies, pitches, (i, f, refl)), refl))
+  ]
+
+  at_pitches : AreComplete p → (rate : Rate) → (rate_is rate).number ≡ n → HasRoom s.line → FrequenciesAllowed p → HasAnswer
+  unfolding HasAnswer
+  at_pitches complete rate is room frequencies = elim (all_or_fails pitch_passes (rate_is rate).pitch_subframes) [
+    | inl pitches ↦ at_codebooks complete rate is room frequencies pitches
+    | inr (i, f) ↦ (Err (Pitch (i + 1)), s, (complete, (rate, (is, room), frequencies, (i, f, refl)), refl))
+  ]
+
+  at_frequencies : AreComplete p → (rate : Rate) → (rate_is rate).number ≡ n → HasRoom s.line → HasAnswer
+  unfolding HasAnswer
+  at_frequencies complete rate is room = elim (all_or_fails frequency_passes 10) [
+    | inl frequencies ↦ at_pitches complete rate is room frequencies
+    | inr (i, f) ↦ (Err (Frequency (i + 1)), s, (complete, ((rate, (is, room)), (i, f, refl)), refl))
+  ]
+
+  pub send_some : AreComplete p → (r : Result Sent Refusal) × (t : Link) × Sends s n p r t
+  unfolding HasAnswer
+  send_some complete = elim (rate_or_none n) [
+    | inr none ↦ (Err Codes, s, (complete, none, refl))
+    | inl (rate, is) ↦ elim (cases_lt (length s.line.waiting) s.line.places) [
+      | inr full ↦ (Err LineFull, s, (complete, ((rate, is), full), refl))
+      | inl room ↦ at_frequencies complete rate is room
+    ]
+  ]
