@@ -1,15 +1,13 @@
 -- One frame sent and taken, on a link that takes from its own line.
-use Rattle.std.proofs.Common.{◌≡◌, ℕ, zero, suc, ◌+◌, ◌-◌, ◌*◌, ◌^◌, ◌<◌, ◌≤◌, Bool, true, false, not, ◌&&◌, List, [], ◌∷◌, ◌++◌, length, replicate, get_or, slice_index, slice_index_or, Some, None, Option, Ok, Err, Result, ℤ, pos, negsuc, ◌+ℤ◌, ◌-ℤ◌, refl, sym, ap, ap₂, ◌∙◌, subst, zero-add, inl, inr, arith}
+use Rattle.std.proofs.Common.{◌≡◌, ℕ, Bool, true, false, not, ◌&&◌, List, [], ◌∷◌, length, replicate, Some, Option, Ok, ℤ, pos, negsuc, ◌+ℤ◌, refl, sym, ap, ap₂, ◌∙◌, subst, arith}
 use Rattle.std.proofs.lemmas.Bool.{and_parts}
 use Rattle.std.proofs.lemmas.List.{get_or-replicate}
 use Rattle.service.proofs.Computed.{all_at}
 use Rattle.service.specs.declared.rates.Rate.TheVariants.{Full as Rate1}
-use Rattle.service.specs.declared.categories.Category.{Category}
-use Rattle.service.specs.declared.categories.Category.TheVariants.{Blank as BlankFrame, Full, Suspect}
+use Rattle.service.specs.declared.categories.Category.TheVariants.{Blank as BlankFrame, Suspect}
 use Rattle.service.specs.declared.readings.Letter.{Letter}
-use Rattle.service.specs.declared.readings.Letter.TheVariants.{B, C, P, S, D}
 use Rattle.service.specs.Tests.{spare_bits_set, wrong_length}
-use Rattle.lsp.specs.Histories.{Event, after, packet as packet_event}
+use Rattle.lsp.specs.Histories.{after, packet as packet_event}
 use Rattle.lsp.specs.Quantizers.{quantized, value_of}
 use Rattle.lsp.specs.States.{bias, frequencies}
 use Rattle.lsp.specs.Ten.{ten}
@@ -21,13 +19,13 @@ use Rattle.figures.specs.declared.codebook.CodebookParameter.{CodebookParameter}
 use Rattle.figures.specs.declared.codebook.Sign.TheVariants.{Plus}
 use Rattle.figures.specs.Codebook.{EncodesCodebooks, codebook_allowed, codebook_codes, parameter_at}
 use Rattle.figures.specs.Codebook as codebook
-use Rattle.figures.specs.Pitch.{EncodesPitches, pair_at, pitch_allowed, pitch_codes}
+use Rattle.figures.specs.Pitch.{pitch_allowed, pitch_codes}
 use Rattle.law.specs.Arrivals.{Arrival, are_bytes, is_lawful}
-use Rattle.law.specs.Readings.{Reading, Reads, codebook_codes as codebook_codes_of, event_of, no_pitch, pitch_after, pitch_codes as pitch_codes_of}
+use Rattle.law.specs.Readings.{Reading, Reads, event_of, no_pitch, pitch_after}
 use Rattle.law.specs.Ends.{Taken}
-use Rattle.law.specs.Sending.{Encodes, FrequenciesAllowed, Parameters, drawn, frequency_allowed, frequency_at, offsets}
+use Rattle.law.specs.Sending.{Encodes, FrequenciesAllowed, Parameters, drawn, frequency_allowed, offsets}
 use Rattle.law.specs.Links.{Link, Sent, arrival_sent, this_line}
-use Rattle.law.specs.Runs.{Call, Send, Blank, Disturb, Take, Step}
+use Rattle.law.specs.Runs.{Send, Blank, Disturb, Take, Step}
 use Rattle.law.proofs.Sent.{ten_length}
 use Rattle.law.proofs.Silent.{silent, silent_within, zero_at}
 

@@ -10,6 +10,8 @@ pub mod Timeline
 pub mod Agreement
 pub mod Silent
 pub mod Exchanges
+pub mod Rows
+pub mod Example
 pub mod Marks
 pub mod Every
 pub mod Filled

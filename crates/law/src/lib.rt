@@ -3,6 +3,7 @@
 
 ghost use Rattle.law.specs.Words.{ChangesOfWords};
 ghost use Rattle.law.specs.Law.{EveryRun, EveryStepCarries, RunsJoin};
+ghost use Rattle.law.specs.Example.{ARun};
 ghost use Rattle.law.specs.Marks.{WorkedExamples};
 ghost use Rattle.law.specs.Answers.{EachTakeIsACall, EveryLinkKeeps, OneAnswerToEachCall, OneAnswerToEachRun, OneReadingOfEachArrival};
 
@@ -66,4 +67,11 @@ pub fn one_run()
 #[tactic(auto, using(crate::proofs::OneRun::takes_are_calls))]
 pub fn takes_are_calls()
     ensures { EachTakeIsACall }
+{}
+
+/// Carries a theorem: the law is not empty. There is a run in which the ends' memories differ, 256 packets in a row are read as
+/// sent with a blank, a corrected packet and one with a wrong PCB[0] among them, and a packet with two wrong bits is erased.
+#[tactic(auto, using(crate::proofs::Example::example_run))]
+pub fn a_run()
+    ensures { ARun }
 {}
