@@ -15,7 +15,7 @@ use Rattle.packet_layout.specs.Laws.{place}
 use Rattle.packet.specs.Bits.{bit, bit_at, number_of}
 use Rattle.packet.specs.CheckBits.{inversion, word_of}
 use Rattle.packet.proofs.Numbers.{bit_lt, number_lt, number_more, number_same, shifted_elsewhere, shifted_here}
-use Rattle.law.specs.GuardedBits.{change_at, changed_besides_pcb0, changed_guarded, corrected_packet, differing_bits, packet_bit, with_bit_changed}
+use Rattle.law.specs.GuardedBits.{with_place_changed, changed_besides_pcb0, changed_guarded, corrected_packet, differing_bits, packet_bit, with_bit_changed}
 use Rattle.law.specs.Words.{ChangesOfWords, OneBitChanged}
 
 -- ---- the number of the packet bits of a list of numbers
@@ -124,13 +124,13 @@ xor_elsewhere m b c ne =
     bit_of_xor m (2 ^ b) c ∙ ap (bit_xor (bit m c)) (ap (λ x. bit x c) (sym (one-mul (2 ^ b))) ∙ shifted_elsewhere 1 b c (omega arith) ne)
     ∙ xor_zero_r (bit m c)
 
-change_here : (k : ℕ) (xs : List ℕ) → k / 8 < length xs → bit_at (change_at k xs) k ≡ bit_xor (bit_at xs k) 1
+change_here : (k : ℕ) (xs : List ℕ) → k / 8 < length xs → bit_at (with_place_changed k xs) k ≡ bit_xor (bit_at xs k) 1
 change_here k xs h =
     let b = slice_index xs (k / 8) in
     let i = 7 - k % 8 in
     ap (λ n. bit n i) (get_or-set_same xs (k / 8) (bit_xor b (2 ^ i)) 0 h) ∙ xor_here b i
 
-pub change_elsewhere : (k j : ℕ) (xs : List ℕ) → k / 8 < length xs → j ≢ k → bit_at (change_at k xs) j ≡ bit_at xs j
+pub change_elsewhere : (k j : ℕ) (xs : List ℕ) → k / 8 < length xs → j ≢ k → bit_at (with_place_changed k xs) j ≡ bit_at xs j
 change_elsewhere k j xs h ne =
     let b = slice_index xs (k / 8) in
     let i = 7 - j % 8 in
@@ -145,18 +145,18 @@ change_elsewhere k j xs h ne =
       | inr f ↦ ap (λ n. bit n i) (get_or-set_other xs (k / 8) (j / 8) v 0 f)
     ]
 
-change_back : (k : ℕ) (xs : List ℕ) → k / 8 < length xs → change_at k (change_at k xs) ≡ xs
+change_back : (k : ℕ) (xs : List ℕ) → k / 8 < length xs → with_place_changed k (with_place_changed k xs) ≡ xs
 change_back k xs h =
     let t = k / 8 in
     let m = 2 ^ (7 - k % 8) in
     let b = slice_index xs t in
-    let once = change_at k xs in
+    let once = with_place_changed k xs in
     let same : length once ≡ length xs = length-set xs t (bit_xor b m) in
     let here : slice_index once t ≡ bit_xor b m = get_or-set_same xs t (bit_xor b m) 0 h in
-    ext_get_or 0 (change_at k once) xs (length-set once t (bit_xor (slice_index once t) m) ∙ same)
+    ext_get_or 0 (with_place_changed k once) xs (length-set once t (bit_xor (slice_index once t) m) ∙ same)
     (λ i l. elim (cases_eq i t) [
       | inl e ↦
-          ap (slice_index (change_at k once)) e
+          ap (slice_index (with_place_changed k once)) e
           ∙ get_or-set_same once t (bit_xor (slice_index once t) m) 0 (omega (arith, same))
           ∙ ap (λ n. bit_xor n m) here ∙ xor_twice b m ∙ ap (slice_index xs) (sym e)
       | inr ne ↦ get_or-set_other once t i (bit_xor (slice_index once t) m) 0 ne ∙ get_or-set_other xs t i (bit_xor b m) 0 ne

@@ -29,7 +29,7 @@ use Rattle.packet.specs.Codes.{Within, in_order}
 use Rattle.packet.proofs.Packets.{each_bit}
 use Rattle.packet.proofs.Trips.{guarded_word, unpacking_returns}
 use Rattle.law.specs.Arrivals.{are_bytes, is_lawful}
-use Rattle.law.specs.GuardedBits.{bit_of_power, change_at, corrected_packet, with_bit_changed}
+use Rattle.law.specs.GuardedBits.{bit_of_power, with_place_changed, corrected_packet, with_bit_changed}
 use Rattle.law.proofs.Changes.{change_elsewhere, guarded_small, one_bit_changed, word_changed, word_corrected}
 
 -- ---- any packet of 22 bytes
@@ -141,14 +141,14 @@ fine_changed xs n h fine =
         | inl e ↦
             let low : b % 2 ^ 5 ≡ 0 = ap (λ j. slice_index xs j % 2 ^ 5) (sym e) ∙ fine.spare in
             let none : m % 2 ^ 5 ≡ 0 = high_bit k (sym e) (omega arith) in
-            ap (λ j. slice_index (change_at k xs) j % 2 ^ 5) e ∙ ap (λ x. x % 2 ^ 5) (get_or-set_same xs t v 0 l)
+            ap (λ j. slice_index (with_place_changed k xs) j % 2 ^ 5) e ∙ ap (λ x. x % 2 ^ 5) (get_or-set_same xs t v 0 l)
             ∙ xor_mod b m 5 ∙ ap (λ x. bit_xor x (m % 2 ^ 5)) low ∙ none
         | inr ne ↦ ap (λ x. x % 2 ^ 5) (get_or-set_other xs t 21 v 0 ne) ∙ fine.spare
       ];
       bytes = λ j. elim (cases_eq j t) [
         | inl e ↦
             let m_lt : m < 2 ^ 8 = pow-lt {j = 8} (omega arith) in
-            subst (λ x. x < 256) (sym (ap (slice_index (change_at k xs)) e ∙ get_or-set_same xs t v 0 l)) (xor_lt 8 b m (fine.bytes t) m_lt)
+            subst (λ x. x < 256) (sym (ap (slice_index (with_place_changed k xs)) e ∙ get_or-set_same xs t v 0 l)) (xor_lt 8 b m (fine.bytes t) m_lt)
         | inr ne ↦ subst (λ x. x < 256) (sym (get_or-set_other xs t j v 0 ne)) (fine.bytes j)
       ];
     }

@@ -11,8 +11,8 @@ use Rattle.figures.specs.declared.pitch.PitchCodes.{PitchCodes}
 use Rattle.figures.specs.Pitch.{EncodesPitches, pair_at, pitch_codes as pitch_code}
 use Rattle.figures.specs.Codebook.{EncodesCodebooks, codebook_codes as codebook_code, parameter_at}
 use Rattle.figures.proofs.Frames.{one_codebook_answer, one_pitch_answer}
-use Rattle.law.specs.Readings.{codebook_codes, pitch_codes}
-use Rattle.law.specs.Sending.{AreComplete, CodebooksAllowed, Draws, Encodes, FirstNotOnes, NoDraw, OnesAtDraw, Parameters, PitchesAllowed, cbseed_of, drawn, most_draws, offsets, with_cbseed}
+use Rattle.law.specs.Readings.{codebook_codes_in, pitch_codes_in}
+use Rattle.law.specs.Sending.{AreComplete, CodebooksAllowed, Draws, Encodes, FirstNotAllOnes, NoDraw, AllOnesAtDraw, Parameters, PitchesAllowed, cbseed_of, drawn, most_draws, offsets, with_cbseed}
 use Rattle.law.proofs.Filled.{filled, filled_front, filled_length, filled_past}
 use Rattle.law.proofs.Searches.{all_or_first, first_once}
 use Rattle.law.proofs.OneReading.{codebook_subframes_le, known_ones, pitch_subframes_le}
@@ -46,7 +46,7 @@ module _ (rate : Rate) (p : Parameters) (m : List ℤ) where
   pair_is : (a b : ℕ) (c : ℕ × ℕ) → a ≡ c.0 → b ≡ c.1 → (a, b) ≡ c
   pair_is a b c e e' = ap₂ (λ (x y : ℕ). (x, y)) e e'
 
-  pitches_encoded : AreComplete p → PitchesAllowed rate p → (cbseed : ℕ) → EncodesPitches rate p.pitches (pitch_codes (codes_of cbseed))
+  pitches_encoded : AreComplete p → PitchesAllowed rate p → (cbseed : ℕ) → EncodesPitches rate p.pitches (pitch_codes_in (codes_of cbseed))
   pitches_encoded complete allowed cbseed =
       let s = (rate_is rate).pitch_subframes in
       let front = λ (part : (ℕ × ℕ) → ℕ). filled_front 4 s (λ i. part (pitch_at i)) 0 0 (pitch_subframes_le rate) in
@@ -60,7 +60,7 @@ module _ (rate : Rate) (p : Parameters) (m : List ℤ) where
         past = λ i k h. pair_is _ _ (0, 0) (past (λ c. c.0) i k h) (past (λ c. c.1) i k h);
       }
 
-  codebooks_encoded : AreComplete p → CodebooksAllowed rate p → (cbseed : ℕ) → EncodesCodebooks rate p.codebooks (codebook_codes (codes_of cbseed))
+  codebooks_encoded : AreComplete p → CodebooksAllowed rate p → (cbseed : ℕ) → EncodesCodebooks rate p.codebooks (codebook_codes_in (codes_of cbseed))
   codebooks_encoded complete allowed cbseed =
       let s = (rate_is rate).codebook_subframes in
       let front = λ (part : (ℕ × ℕ) → ℕ). filled_front 8 s (λ i. part (codebook_at i)) 0 0 (codebook_subframes_le rate) in
@@ -88,9 +88,9 @@ codes_from lsp p b = record { lsp = lsp; plag = p.plag; pgain = p.pgain; cbindex
 
 pub encoded_once : (rate : Rate) (p : Parameters) (m : List ℤ) (c c' : CodeNumbers) → Encodes rate p m c → Encodes rate p m c' → unseeded c ≡ unseeded c'
 encoded_once rate p m c c' a b =
-    ap (λ x. codes_from x (pitch_codes c) (codebook_codes c)) (a.lsp ∙ sym b.lsp)
-    ∙ ap (λ x. codes_from c'.lsp x (codebook_codes c)) (one_pitch_answer.encoded rate p.pitches (pitch_codes c) (pitch_codes c') a.pitch b.pitch)
-    ∙ ap (λ x. codes_from c'.lsp (pitch_codes c') x) (one_codebook_answer.encoded rate p.codebooks (codebook_codes c) (codebook_codes c') a.codebook b.codebook)
+    ap (λ x. codes_from x (pitch_codes_in c) (codebook_codes_in c)) (a.lsp ∙ sym b.lsp)
+    ∙ ap (λ x. codes_from c'.lsp x (codebook_codes_in c)) (one_pitch_answer.encoded rate p.pitches (pitch_codes_in c) (pitch_codes_in c') a.pitch b.pitch)
+    ∙ ap (λ x. codes_from c'.lsp (pitch_codes_in c') x) (one_codebook_answer.encoded rate p.codebooks (codebook_codes_in c) (codebook_codes_in c') a.codebook b.codebook)
 
 pub same_codes : (c c' : CodeNumbers) → unseeded c ≡ unseeded c' → c.cbseed ≡ c'.cbseed → c ≡ c'
 same_codes c c' e seeds = ap (λ x. with_cbseed c.cbseed x) e ∙ ap (λ k. with_cbseed k c') seeds
@@ -98,22 +98,22 @@ same_codes c c' e seeds = ap (λ x. with_cbseed c.cbseed x) e ∙ ap (λ k. with
 -- ---- the draws
 
 -- a draw looks at nothing of CBSEED
-pub same_draw : (c c' : CodeNumbers) (seed k : ℕ) → unseeded c ≡ unseeded c' → OnesAtDraw c seed k → OnesAtDraw c' seed k
-same_draw c c' seed k e ones = subst (λ d. OnesAtDraw d seed k) e ones
+pub same_draw : (c c' : CodeNumbers) (seed k : ℕ) → unseeded c ≡ unseeded c' → AllOnesAtDraw c seed k → AllOnesAtDraw c' seed k
+same_draw c c' seed k e ones = subst (λ d. AllOnesAtDraw d seed k) e ones
 
-known_draw : (c : CodeNumbers) (seed k : ℕ) → OnesAtDraw c seed k ⊎ (OnesAtDraw c seed k → ⊥)
+known_draw : (c : CodeNumbers) (seed k : ℕ) → AllOnesAtDraw c seed k ⊎ (AllOnesAtDraw c seed k → ⊥)
 known_draw c seed k = known_ones Eighth (packet Eighth (with_cbseed (cbseed_of (drawn k seed)) c))
 
 -- some draw does not give all ones, or they all do
-pub draws_or_none : (c : CodeNumbers) (seed : ℕ) → ((n : ℕ) × FirstNotOnes c seed n) ⊎ ((k : ℕ) → 1 ≤ k → k ≤ most_draws → OnesAtDraw c seed k)
-draws_or_none c seed = elim (all_or_first (OnesAtDraw c seed) (known_draw c seed) 1 (most_draws + 1)) [
+pub draws_or_none : (c : CodeNumbers) (seed : ℕ) → ((n : ℕ) × FirstNotAllOnes c seed n) ⊎ ((k : ℕ) → 1 ≤ k → k ≤ most_draws → AllOnesAtDraw c seed k)
+draws_or_none c seed = elim (all_or_first (AllOnesAtDraw c seed) (known_draw c seed) 1 (most_draws + 1)) [
   | inl all ↦ inr (λ k l h. all k l (omega arith))
   | inr (n, l, h, before, fails) ↦ inl (n, record { some = l; most = omega arith; before = before; at = fails })
 ]
 
-first_not_ones_once : (c c' : CodeNumbers) (seed n n' : ℕ) → unseeded c ≡ unseeded c' → FirstNotOnes c seed n → FirstNotOnes c' seed n' → n ≡ n'
+first_not_ones_once : (c c' : CodeNumbers) (seed n n' : ℕ) → unseeded c ≡ unseeded c' → FirstNotAllOnes c seed n → FirstNotAllOnes c' seed n' → n ≡ n'
 first_not_ones_once c c' seed n n' e f g =
-    first_once (OnesAtDraw c seed) 1 n n' f.some g.some f.before f.at
+    first_once (AllOnesAtDraw c seed) 1 n n' f.some g.some f.before f.at
     (λ k l h. same_draw c' c seed k (sym e) (g.before k l h)) (λ ones. g.at (same_draw c c' seed n' e ones))
 
 pub draws_once : (rate : Rate) (c c' : CodeNumbers) (seed n n' : ℕ) → unseeded c ≡ unseeded c' → Draws rate c seed n → Draws rate c' seed n' → (n ≡ n') × (c.cbseed ≡ c'.cbseed)

@@ -4,10 +4,11 @@ use Rattle.lsp.specs.Histories.{Event, after, blank, erasure, packet as packet_e
 use Rattle.lsp.specs.States.{fresh}
 use Rattle.packet.specs.Codes.{Within}
 use Rattle.law.specs.Ends.{Taken}
-use Rattle.law.specs.Links.{Link, Sent}
-use Rattle.law.specs.Runs.{Moment, New, Run, Step, now, past, the_receiver, the_sender}
-use Rattle.law.specs.Law.{EveryRun, EveryStepCarries, FewChanges, GuardedBitsHold, Law, RunsJoin}
-use Rattle.law.specs.Answers.{EveryLinkKeeps, Kept}
+use Rattle.law.specs.Links.{Link}
+use Rattle.law.specs.Sending.{Sent}
+use Rattle.law.specs.Runs.{CallMade, New, Run, Step, now, events_at, the_receiver, the_sender}
+use Rattle.law.specs.Law.{EveryRun, EveryStepCarries, AtMostFourChanged, GuardedBitsHold, Law, RunsJoin}
+use Rattle.law.specs.Keeping.{EveryLinkKeeps, Kept}
 use Rattle.law.proofs.Agreement.{agree}
 use Rattle.law.proofs.Facts.{IsPacket, WasRead, packet_facts, sent_facts, taken_facts}
 use Rattle.law.proofs.Guarding.{guarded_bits_hold}
@@ -24,14 +25,14 @@ ten_after (erasure ∷ events) = ten_length _
 ten_after (blank ∷ events) = ten_after events
 ten_after (restart ∷ events) = ten_length _
 
-module _ (s : Link) (new : New s) (h : List Moment) (r : Run s h) where
+module _ (s : Link) (new : New s) (h : List CallMade) (r : Run s h) where
   sender_new : s.sender.memories ≡ fresh
   sender_new = ap (λ e. e.memories) new.sender
 
   receiver_new : s.receiver.memories ≡ fresh
   receiver_new = ap (λ e. e.memories) new.receiver
 
-  guarded_bits : (n : ℕ) (f : Sent) (x : Taken) → FewChanges h n f x → GuardedBitsHold f x
+  guarded_bits : (n : ℕ) (f : Sent) (x : Taken) → AtMostFourChanged h n f x → GuardedBitsHold f x
   guarded_bits n f x w =
       let (a, is_sent, what) = w.frame in
       let (b, is_taken, read) = w.arrival in
@@ -51,8 +52,8 @@ module _ (s : Link) (new : New s) (h : List Moment) (r : Run s h) where
   kept =
       let a = arrivals_kept s h new r in
       record {
-        sender = (in_range the_sender sender_moves s sender_new h r, ap length (held the_sender sender_moves s sender_new h r) ∙ ten_after (past the_sender h));
-        receiver = (in_range the_receiver receiver_moves s receiver_new h r, ap length (held the_receiver receiver_moves s receiver_new h r) ∙ ten_after (past the_receiver h));
+        sender = (in_range the_sender sender_moves s sender_new h r, ap length (held the_sender sender_moves s sender_new h r) ∙ ten_after (events_at the_sender h));
+        receiver = (in_range the_receiver receiver_moves s receiver_new h r, ap length (held the_receiver receiver_moves s receiver_new h r) ∙ ten_after (events_at the_receiver h));
         seed = seed_kept s h new r;
         places = a.line.places;
         fits = a.line.fits;
@@ -74,7 +75,7 @@ carried t u c p = record {
       ((p', r), every_run s (record { call = c; link = u } ∷ h) new (p', r));
 }
 
-now_join : (s : Link) (h h' : List Moment) → now s (h' ++ h) ≡ now (now s h) h'
+now_join : (s : Link) (h h' : List CallMade) → now s (h' ++ h) ≡ now (now s h) h'
 now_join s h [] = refl
 now_join s h (m ∷ h') = refl
 

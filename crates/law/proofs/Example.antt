@@ -1,5 +1,5 @@
 -- A run in which all that the law names occurs.
-use Rattle.std.proofs.Common.{◌≡◌, ◌≢◌, ℕ, zero, suc, ◌+◌, ◌/◌, ◌≤◌, true, List, [], ◌∷◌, ◌++◌, get_or, slice_index, Some, None, Option, Ok, ℤ, pos, ◌+ℤ◌, bit_xor, count_ones, refl, sym, ap, ap₂, ◌∙◌, subst, zero-add, inr, arith}
+use Rattle.std.proofs.Common.{◌≡◌, ℕ, zero, suc, ◌+◌, ◌/◌, ◌<◌, ◌≤◌, true, List, [], ◌∷◌, ◌++◌, get_or, slice_index, Some, None, Option, Ok, ℤ, pos, ◌+ℤ◌, ◌-ℤ◌, unsigned_abs, bit_xor, count_ones, refl, sym, ap, ap₂, ◌∙◌, subst, zero-add, inr, arith}
 use Rattle.std.specs.Int.Bits.{xor_assoc, xor_shr}
 use Rattle.std.proofs.lemmas.Int.{ints}
 use Rattle.service.specs.declared.rates.Rate.TheVariants.{Full as Rate1}
@@ -17,12 +17,13 @@ use Rattle.packet.specs.Calls.{packet}
 use Rattle.packet.specs.CheckBits.{word_of}
 use Rattle.law.specs.GuardedBits.{changed_besides_pcb0, changed_guarded, corrected_packet, with_bit_changed}
 use Rattle.law.specs.Arrivals.{Arrival, are_lawful, is_lawful}
-use Rattle.law.specs.Readings.{Reading, Reads, event_of, no_pitch, pitch_after}
+use Rattle.law.specs.Readings.{Reading, Reads, event_read, no_pitch, pitch_after}
 use Rattle.law.specs.Ends.{Taken}
-use Rattle.law.specs.Links.{Link, Sent, arrival_sent}
-use Rattle.law.specs.Runs.{Send, Blank, Disturb, Take, RestartReceiver, Frame, Moment, Run, Step, arrivals_taken, now, restarts_in, the_receiver, the_sender}
+use Rattle.law.specs.Links.{Link}
+use Rattle.law.specs.Sending.{Sent, arrival_sent}
+use Rattle.law.specs.Runs.{Send, Blank, Disturb, Take, RestartReceiver, Frame, CallMade, Run, Step, arrivals_taken, now, restarts_at, the_receiver, the_sender}
 use Rattle.law.specs.Law.{IsSent, IsTaken}
-use Rattle.law.specs.Example.{ARun, MemoriesDiffer, ReadAsSuspect, TakenAsBlank, TakenAsSuspect}
+use Rattle.law.specs.Example.{ExampleRun, MemoriesApart, ReadAsSuspect, TakenAsBlank, TakenAsSuspect}
 use Rattle.law.proofs.Changes.{changes_of_words, word_changed}
 use Rattle.law.proofs.Corrected.{both_changed_is_lawful, one_changed_fine, one_changed_is_lawful, pcb0_changed_is_lawful, sent_size}
 use Rattle.law.proofs.Exchanges.{after_codes, blank_step, disturb_step, link, lsp_codes, parameters, send_step, sends_within, sent, take_step, taken}
@@ -40,18 +41,18 @@ abbrev start : Link
 start = link fresh fresh []
 
 -- a history that leads to a link with nothing waiting
-record At (m r : List ℤ) (h : List Moment) : Type 0 where
+record At (m r : List ℤ) (h : List CallMade) : Type 0 where
   run : Run start h
   now_is : now start h ≡ link m r []
 
 -- a packet is sent, and taken as it is
-abbrev plain : List ℤ → List ℤ → List Moment → List Moment
+abbrev plain : List ℤ → List ℤ → List CallMade → List CallMade
 plain m r h =
     record { call = Take (Some (taken (arrival_sent (sent m)) C (Some (silent_reading (lsp_codes m))) r)); link = link (after_codes (lsp_codes m) m) (after_codes (lsp_codes m) r) [] }
     ∷ record { call = Send 4 parameters (Ok (sent m)); link = link (after_codes (lsp_codes m) m) r (arrival_sent (sent m) ∷ []) }
     ∷ h
 
-plain_at : (m r : List ℤ) (h : List Moment) → At m r h → At (after_codes (lsp_codes m) m) (after_codes (lsp_codes m) r) (plain m r h)
+plain_at : (m r : List ℤ) (h : List CallMade) → At m r h → At (after_codes (lsp_codes m) m) (after_codes (lsp_codes m) r) (plain m r h)
 plain_at m r h a = record {
   run = (
     take_step (after_codes (lsp_codes m) m) r (arrival_sent (sent m)) C (Some (silent_reading (lsp_codes m))) (reads_as_sent (lsp_codes m) (sends_within m)) refl,
@@ -61,15 +62,15 @@ plain_at m r h a = record {
 }
 
 -- a packet is sent, replaced by these bytes in category 5, and taken
-abbrev suspect : List ℤ → List ℤ → List ℕ → Letter → Option Reading → List Moment → List Moment
+abbrev suspect : List ℤ → List ℤ → List ℕ → Letter → Option Reading → List CallMade → List CallMade
 suspect m r bytes l x h =
-    record { call = Take (Some (taken (record { category = Suspect; bytes = bytes }) l x r)); link = link (after_codes (lsp_codes m) m) (after r (event_of l x ∷ [])) [] }
+    record { call = Take (Some (taken (record { category = Suspect; bytes = bytes }) l x r)); link = link (after_codes (lsp_codes m) m) (after r (event_read l x ∷ [])) [] }
     ∷ record { call = Disturb 1 5 bytes (Ok tt); link = link (after_codes (lsp_codes m) m) r (record { category = Suspect; bytes = bytes } ∷ []) }
     ∷ record { call = Send 4 parameters (Ok (sent m)); link = link (after_codes (lsp_codes m) m) r (arrival_sent (sent m) ∷ []) }
     ∷ h
 
-suspect_at : (m r : List ℤ) (bytes : List ℕ) (l : Letter) (x : Option Reading) (h : List Moment) → is_lawful (record { category = Suspect; bytes = bytes }) ≡ true
-    → Reads Suspect bytes l x → pitch_after l x no_pitch ≡ no_pitch → At m r h → At (after_codes (lsp_codes m) m) (after r (event_of l x ∷ [])) (suspect m r bytes l x h)
+suspect_at : (m r : List ℤ) (bytes : List ℕ) (l : Letter) (x : Option Reading) (h : List CallMade) → is_lawful (record { category = Suspect; bytes = bytes }) ≡ true
+    → Reads Suspect bytes l x → pitch_after l x no_pitch ≡ no_pitch → At m r h → At (after_codes (lsp_codes m) m) (after r (event_read l x ∷ [])) (suspect m r bytes l x h)
 suspect_at m r bytes l x h lawful reads pitch a = record {
   run = (
     take_step (after_codes (lsp_codes m) m) r (record { category = Suspect; bytes = bytes }) l x reads pitch,
@@ -85,41 +86,41 @@ suspect_at m r bytes l x h lawful reads pitch a = record {
 abbrev blank_arrival : Arrival
 blank_arrival = record { category = BlankFrame; bytes = [] }
 
-abbrev blanked : List ℤ → List ℤ → List Moment → List Moment
+abbrev blanked : List ℤ → List ℤ → List CallMade → List CallMade
 blanked m r h =
     record { call = Take (Some (taken blank_arrival B None r)); link = link m r [] } ∷ record { call = Blank (Ok tt); link = link m r (blank_arrival ∷ []) } ∷ h
 
-blanked_at : (m r : List ℤ) (h : List Moment) → At m r h → At m r (blanked m r h)
+blanked_at : (m r : List ℤ) (h : List CallMade) → At m r h → At m r (blanked m r h)
 blanked_at m r h a = record {
   run = (take_step m r blank_arrival B None (refl, refl) refl, (subst (λ s. Step s (Blank (Ok tt)) (link m r (blank_arrival ∷ []))) (sym a.now_is) (blank_step m r), a.run));
   now_is = refl;
 }
 
 -- each of the three is one frame more at each end
-plain_grows : (m r : List ℤ) (h : List Moment)
+plain_grows : (m r : List ℤ) (h : List CallMade)
     → Grows h (plain m r h) (Some (sent m)) (after_codes (lsp_codes m) m) (taken (arrival_sent (sent m)) C (Some (silent_reading (lsp_codes m))) r) (after_codes (lsp_codes m) r)
 plain_grows m r h = record {
   sent = append_nil _;
-  taken = ap₂ (λ l n. l ++ (record { what = taken (arrival_sent (sent m)) C (Some (silent_reading (lsp_codes m))) r; memories = after_codes (lsp_codes m) r; era = n } ∷ [])) (append_nil (arrivals_taken h)) (zero-add (restarts_in the_receiver h));
+  taken = ap₂ (λ l n. l ++ (record { what = taken (arrival_sent (sent m)) C (Some (silent_reading (lsp_codes m))) r; memories = after_codes (lsp_codes m) r; era = n } ∷ [])) (append_nil (arrivals_taken h)) (zero-add (restarts_at the_receiver h));
   sender = omega arith;
   receiver = omega arith;
 }
 
-suspect_grows : (m r : List ℤ) (bytes : List ℕ) (l : Letter) (x : Option Reading) (h : List Moment)
-    → Grows h (suspect m r bytes l x h) (Some (sent m)) (after_codes (lsp_codes m) m) (taken (record { category = Suspect; bytes = bytes }) l x r) (after r (event_of l x ∷ []))
+suspect_grows : (m r : List ℤ) (bytes : List ℕ) (l : Letter) (x : Option Reading) (h : List CallMade)
+    → Grows h (suspect m r bytes l x h) (Some (sent m)) (after_codes (lsp_codes m) m) (taken (record { category = Suspect; bytes = bytes }) l x r) (after r (event_read l x ∷ []))
 suspect_grows m r bytes l x h = record {
   sent = append_nil _ ∙ append_nil _;
   taken =
-      ap₂ (λ l' n. l' ++ (record { what = taken (record { category = Suspect; bytes = bytes }) l x r; memories = after r (event_of l x ∷ []); era = n } ∷ []))
-      (append_nil _ ∙ append_nil (arrivals_taken h)) (zero-add (0 + restarts_in the_receiver h) ∙ zero-add (restarts_in the_receiver h));
+      ap₂ (λ l' n. l' ++ (record { what = taken (record { category = Suspect; bytes = bytes }) l x r; memories = after r (event_read l x ∷ []); era = n } ∷ []))
+      (append_nil _ ∙ append_nil (arrivals_taken h)) (zero-add (0 + restarts_at the_receiver h) ∙ zero-add (restarts_at the_receiver h));
   sender = omega arith;
   receiver = omega arith;
 }
 
-blanked_grows : (m r : List ℤ) (h : List Moment) → Grows h (blanked m r h) None m (taken blank_arrival B None r) r
+blanked_grows : (m r : List ℤ) (h : List CallMade) → Grows h (blanked m r h) None m (taken blank_arrival B None r) r
 blanked_grows m r h = record {
   sent = append_nil _;
-  taken = ap₂ (λ l n. l ++ (record { what = taken blank_arrival B None r; memories = r; era = n } ∷ [])) (append_nil (arrivals_taken h)) (zero-add (restarts_in the_receiver h));
+  taken = ap₂ (λ l n. l ++ (record { what = taken blank_arrival B None r; memories = r; era = n } ∷ [])) (append_nil (arrivals_taken h)) (zero-add (restarts_at the_receiver h));
   sender = omega arith;
   receiver = omega arith;
 }
@@ -134,11 +135,11 @@ receiver_at : ℕ → List ℤ → List ℤ → List ℤ
 receiver_at zero m r = r
 receiver_at (suc i) m r = after_codes (lsp_codes (sender_at i m)) (receiver_at i m r)
 
-packets_sent : ℕ → List ℤ → List ℤ → List Moment → List Moment
+packets_sent : ℕ → List ℤ → List ℤ → List CallMade → List CallMade
 packets_sent zero m r h = h
 packets_sent (suc i) m r h = plain (sender_at i m) (receiver_at i m r) (packets_sent i m r h)
 
-module _ (m r : List ℤ) (h : List Moment) where
+module _ (m r : List ℤ) (h : List CallMade) where
   packets_at : (i : ℕ) → At m r h → At (sender_at i m) (receiver_at i m r) (packets_sent i m r h)
   unfolding sender_at receiver_at packets_sent
   packets_at zero a = a
@@ -214,7 +215,7 @@ unfolding lib.Count.ones
 two_of_2049 = (refl, refl)
 
 -- frame n of h is the packet of memories m, taken as suspect with these bytes
-as_suspect : (h : List Moment) (n : ℕ) (m r : List ℤ) (bytes : List ℕ) (l : Letter) (x : Option Reading) (f : Frame (Option Sent)) (g : Frame Taken) (d changed besides : ℕ)
+as_suspect : (h : List CallMade) (n : ℕ) (m r : List ℤ) (bytes : List ℕ) (l : Letter) (x : Option Reading) (f : Frame (Option Sent)) (g : Frame Taken) (d changed besides : ℕ)
     → IsSent h n f → f.what ≡ Some (sent m) → IsTaken h n g → g.what ≡ taken (record { category = Suspect; bytes = bytes }) l x r
     → word_of bytes ≡ bit_xor (word_of (packet Rate1 (silent (lsp_codes m)))) d → (count_ones d ≡ changed) × (count_ones (d / 2) ≡ besides) → changed ≤ 4
     → TakenAsSuspect h n l changed besides
@@ -242,10 +243,10 @@ lsp_1 : (m : List ℤ) (codes : List ℕ) → get_or (after_codes codes m) 0 (po
 unfolding ten
 lsp_1 m codes = refl
 
-apart : (v a b : ℤ) → a ≢ b → (v +ℤ a) ≢ (v +ℤ b)
-apart v a b ne e = ne (omega (arith, ints, e))
+apart : (v a b x y : ℤ) → x ≡ v +ℤ a → y ≡ v +ℤ b → 10 < unsigned_abs (a -ℤ b) → 10 < unsigned_abs (x -ℤ y)
+apart v a b x y e f l = omega (arith, ints, e, f, l)
 
-module _ (m : List ℤ) (h : List Moment) (at_start : At m fresh h) (row : Row h 1 0 0 0 1) (decayed_apart : decay (get_or m 0 (pos 0)) ≢ decay (get_or fresh 0 (pos 0))) where
+module _ (m : List ℤ) (h : List CallMade) (at_start : At m fresh h) (row : Row h 1 0 0 0 1) (decayed_apart : 10 < unsigned_abs (decay (get_or m 0 (pos 0)) -ℤ decay (get_or fresh 0 (pos 0)))) where
   -- frame 2
   m2 : List ℤ
   m2 = after_codes (lsp_codes m) m
@@ -253,7 +254,7 @@ module _ (m : List ℤ) (h : List Moment) (at_start : At m fresh h) (row : Row h
   r2 : List ℤ
   r2 = after_codes (lsp_codes m) fresh
 
-  h2 : List Moment
+  h2 : List CallMade
   h2 = plain m fresh h
 
   at2 : At m2 r2 h2
@@ -268,7 +269,7 @@ module _ (m : List ℤ) (h : List Moment) (at_start : At m fresh h) (row : Row h
   row2 = row_more _ _ _ _ _ _ 1 0 0 0 1 grows2 (refl, (refl, refl)) row
 
   -- frame 3, the blank
-  h3 : List Moment
+  h3 : List CallMade
   h3 = blanked m2 r2 h2
 
   at3 : At m2 r2 h3
@@ -292,7 +293,7 @@ module _ (m : List ℤ) (h : List Moment) (at_start : At m fresh h) (row : Row h
   taken4 : Taken
   taken4 = taken (record { category = Suspect; bytes = one_wrong m2 }) S (Some (silent_reading (lsp_codes m2))) r2
 
-  h4 : List Moment
+  h4 : List CallMade
   h4 = suspect m2 r2 (one_wrong m2) S (Some (silent_reading (lsp_codes m2))) h3
 
   at4 : At m4 r4 h4
@@ -319,7 +320,7 @@ module _ (m : List ℤ) (h : List Moment) (at_start : At m fresh h) (row : Row h
   taken5 : Taken
   taken5 = taken (record { category = Suspect; bytes = pcb0_wrong m4 }) P (Some (silent_reading (lsp_codes m4))) r4
 
-  h5 : List Moment
+  h5 : List CallMade
   h5 = suspect m4 r4 (pcb0_wrong m4) P (Some (silent_reading (lsp_codes m4))) h4
 
   at5 : At m5 r5 h5
@@ -343,7 +344,7 @@ module _ (m : List ℤ) (h : List Moment) (at_start : At m fresh h) (row : Row h
   r258 : List ℤ
   r258 = receiver_at 253 m5 r5
 
-  h258 : List Moment
+  h258 : List CallMade
   h258 = packets_sent 253 m5 r5 h5
 
   at258 : At m258 r258 h258
@@ -362,7 +363,7 @@ module _ (m : List ℤ) (h : List Moment) (at_start : At m fresh h) (row : Row h
   taken259 : Taken
   taken259 = taken (record { category = Suspect; bytes = two_wrong m258 }) D None r258
 
-  h259 : List Moment
+  h259 : List CallMade
   h259 = suspect m258 r258 (two_wrong m258) D None h258
 
   run259 : Run start h259
@@ -371,7 +372,7 @@ module _ (m : List ℤ) (h : List Moment) (at_start : At m fresh h) (row : Row h
       (suspect_at m258 r258 (two_wrong m258) D None h258 (both_changed_is_lawful (silent (lsp_codes m258)) (sends_within m258) 10 (omega arith))
       (reads_both_changed (lsp_codes m258) (sends_within m258) 10 (omega arith)) refl at258).run
 
-  grows259 : Grows h258 h259 (Some (sent m258)) (after_codes (lsp_codes m258) m258) taken259 (after r258 (event_of D None ∷ []))
+  grows259 : Grows h258 h259 (Some (sent m258)) (after_codes (lsp_codes m258) m258) taken259 (after r258 (event_read D None ∷ []))
   unfolding h259 taken259
   grows259 = suspect_grows m258 r258 (two_wrong m258) D None h258
 
@@ -391,23 +392,25 @@ module _ (m : List ℤ) (h : List Moment) (at_start : At m fresh h) (row : Row h
   extends2 : Extends h2 h259
   extends2 = extends_further h2 h3 h259 (extends_one _ _ _ _ _ _ grows3) extends3
 
-  differ : MemoriesDiffer h259 2
+  apart2 : MemoriesApart h259 2 0 1
   unfolding m2 r2
-  differ = record {
-    sent = record { what = Some (sent m); memories = m2; era = restarts_in the_sender h };
-    taken = record { what = taken (arrival_sent (sent m)) C (Some (silent_reading (lsp_codes m))) fresh; memories = r2; era = restarts_in the_receiver h };
+  apart2 = record {
+    sent = record { what = Some (sent m); memories = m2; era = restarts_at the_sender h };
+    taken = record { what = taken (arrival_sent (sent m)) C (Some (silent_reading (lsp_codes m))) fresh; memories = r2; era = restarts_at the_receiver h };
     is_sent = extends2.sent 2 _ (newest _ _ _ grows2.sent 2 (omega (arith, row.sent_length)));
     is_taken = extends2.taken 2 _ (newest _ _ _ grows2.taken 2 (omega (arith, row.taken_length)));
+    letter = refl;
+    eras = (row.sender_now, row.receiver_now);
     lsp = 0;
-    differ = λ e.
-        apart (value_of Rate1 0 (slice_index (lsp_codes m) 0)) (decay (get_or m 0 (pos 0))) (decay (get_or fresh 0 (pos 0))) decayed_apart
-        (sym (lsp_1 m (lsp_codes m)) ∙ e ∙ lsp_1 fresh (lsp_codes m));
+    apart =
+        apart (value_of Rate1 0 (slice_index (lsp_codes m) 0)) (decay (get_or m 0 (pos 0))) (decay (get_or fresh 0 (pos 0))) _ _
+        (lsp_1 m (lsp_codes m)) (lsp_1 fresh (lsp_codes m)) decayed_apart;
   }
 
   blank3 : TakenAsBlank h259 3
   blank3 = record {
-    sent = record { what = None; memories = m2; era = restarts_in the_sender h2 };
-    taken = record { what = taken blank_arrival B None r2; memories = r2; era = restarts_in the_receiver h2 };
+    sent = record { what = None; memories = m2; era = restarts_at the_sender h2 };
+    taken = record { what = taken blank_arrival B None r2; memories = r2; era = restarts_at the_receiver h2 };
     is_sent = extends3.sent 3 _ (newest _ _ _ grows3.sent 3 (omega (arith, row2.sent_length)));
     is_taken = extends3.taken 3 _ (newest _ _ _ grows3.taken 3 (omega (arith, row2.taken_length)));
     blank = (refl, refl);
@@ -440,14 +443,15 @@ module _ (m : List ℤ) (h : List Moment) (at_start : At m fresh h) (row : Row h
       (newest _ _ _ grows259.sent 259 (omega (arith, row258.sent_length))) refl
       (newest _ _ _ grows259.taken 259 (omega (arith, row258.taken_length))) refl (word_two m258) two_of_2049 (omega arith)
 
-  a_run : ARun
+  a_run : ExampleRun
   a_run = record {
     start = start;
     history = h259;
+    empty = record { supply = refl; waiting = refl };
     new = record { sender = refl; receiver = refl; places = omega arith; fits = omega arith; waiting = nothing_waits; supply = nothing_waits };
     run = run259;
     row = row_stays h258 h259 2 256 extends259 (row_is h258 1 256 0 1 row258);
-    differ = differ;
+    apart = apart2;
     blank = blank3;
     corrected = read4;
     pcb0_wrong = read5;
@@ -459,7 +463,7 @@ module _ (m : List ℤ) (h : List Moment) (at_start : At m fresh h) (row : Row h
 m1 : List ℤ
 m1 = after_codes (lsp_codes fresh) fresh
 
-h1 : List Moment
+h1 : List CallMade
 h1 = record { call = RestartReceiver; link = link m1 fresh [] } ∷ plain fresh fresh []
 
 at1 : At m1 fresh h1
@@ -474,9 +478,9 @@ memory1 : get_or m1 0 (pos 0) ≡ pos 270336000
 unfolding m1 ten decay
 memory1 = refl
 
-apart1 : decay (get_or m1 0 (pos 0)) ≢ decay (get_or fresh 0 (pos 0))
+apart1 : 10 < unsigned_abs (decay (get_or m1 0 (pos 0)) -ℤ decay (get_or fresh 0 (pos 0)))
 unfolding ten decay
-apart1 e = let f = ap decay (sym memory1) ∙ e in absurd (omega (arith, ints, f))
+apart1 = subst (λ z. 10 < unsigned_abs (decay z -ℤ decay (get_or fresh 0 (pos 0)))) (sym memory1) (omega arith)
 
-pub example_run : ARun
+pub example_run : ExampleRun
 example_run = a_run m1 h1 at1 row1 apart1

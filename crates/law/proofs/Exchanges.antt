@@ -1,12 +1,10 @@
 -- One frame sent and taken, on a link that takes from its own line.
-use Rattle.std.proofs.Common.{◌≡◌, ℕ, Bool, true, false, not, ◌&&◌, List, [], ◌∷◌, length, replicate, Some, Option, Ok, ℤ, pos, negsuc, ◌+ℤ◌, refl, sym, ap, ap₂, ◌∙◌, subst, arith}
-use Rattle.std.proofs.lemmas.Bool.{and_parts}
+use Rattle.std.proofs.Common.{◌≡◌, ℕ, true, List, [], ◌∷◌, replicate, Some, Option, Ok, ℤ, pos, negsuc, ◌+ℤ◌, refl, sym, ap, ap₂, ◌∙◌, subst, arith}
 use Rattle.std.proofs.lemmas.List.{get_or-replicate}
 use Rattle.service.proofs.Computed.{all_at}
 use Rattle.service.specs.declared.rates.Rate.TheVariants.{Full as Rate1}
-use Rattle.service.specs.declared.categories.Category.TheVariants.{Blank as BlankFrame, Suspect}
+use Rattle.service.specs.declared.categories.Category.TheVariants.{Suspect}
 use Rattle.service.specs.declared.readings.Letter.{Letter}
-use Rattle.service.specs.Tests.{spare_bits_set, wrong_length}
 use Rattle.lsp.specs.Histories.{after, packet as packet_event}
 use Rattle.lsp.specs.Quantizers.{quantized, value_of}
 use Rattle.lsp.specs.States.{bias, frequencies}
@@ -20,11 +18,11 @@ use Rattle.figures.specs.declared.codebook.Sign.TheVariants.{Plus}
 use Rattle.figures.specs.Codebook.{EncodesCodebooks, codebook_allowed, codebook_codes, parameter_at}
 use Rattle.figures.specs.Codebook as codebook
 use Rattle.figures.specs.Pitch.{pitch_allowed, pitch_codes}
-use Rattle.law.specs.Arrivals.{Arrival, are_bytes, is_lawful}
-use Rattle.law.specs.Readings.{Reading, Reads, event_of, no_pitch, pitch_after}
+use Rattle.law.specs.Arrivals.{Arrival, blank_arrival, is_lawful}
+use Rattle.law.specs.Readings.{Reading, Reads, event_read, no_pitch, pitch_after}
 use Rattle.law.specs.Ends.{Taken}
-use Rattle.law.specs.Sending.{Encodes, FrequenciesAllowed, Parameters, drawn, frequency_allowed, offsets}
-use Rattle.law.specs.Links.{Link, Sent, arrival_sent, this_line}
+use Rattle.law.specs.Sending.{Encodes, FrequenciesAllowed, Parameters, Sent, arrival_sent, drawn, frequency_allowed, offsets}
+use Rattle.law.specs.Links.{Link, this_line}
 use Rattle.law.specs.Runs.{Send, Blank, Disturb, Take, Step}
 use Rattle.law.proofs.Sent.{ten_length}
 use Rattle.law.proofs.Silent.{silent, silent_within, zero_at}
@@ -109,33 +107,33 @@ after_codes codes m = after m (packet_event Rate1 codes ∷ [])
 pub send_step : (m r : List ℤ) → Step (link m r []) (Send 4 parameters (Ok (sent m))) (link (after_codes (lsp_codes m) m) r (arrival_sent (sent m) ∷ []))
 unfolding drawn
 send_step m r = (
-  record { frequencies = ten_length _; pitches = refl; codebooks = refl },
-  record { ready = (refl, omega arith); frequencies = allowed; codes = encodes m; draws = (refl, refl); bytes = refl },
+  (
+    record { frequencies = ten_length _; pitches = refl; codebooks = refl },
+    record {
+      ready = (refl, omega arith);
+      coded = record { rate = refl; frequencies = allowed; codes = encodes m; draws = (refl, refl); bytes = refl };
+      sender = refl;
+      line_after = refl;
+    },
+  ),
   refl,
 )
 
-pub blank_step : (m r : List ℤ) → Step (link m r []) (Blank (Ok tt)) (link m r (record { category = BlankFrame; bytes = [] } ∷ []))
-blank_step m r = (omega arith, refl)
+pub blank_step : (m r : List ℤ) → Step (link m r []) (Blank (Ok tt)) (link m r (blank_arrival ∷ []))
+blank_step m r = ((omega arith, refl, refl), refl)
 
 -- the waiting arrival is replaced by a suspect packet
-not_not : (b : Bool) → not b ≡ true → b ≡ false
-not_not true e = absurd cc
-not_not false e = refl
-
 pub disturb_step : (m r : List ℤ) (a : Arrival) (bytes : List ℕ) → is_lawful (record { category = Suspect; bytes = bytes }) ≡ true
     → Step (link m r (a ∷ [])) (Disturb 1 5 bytes (Ok tt)) (link m r (record { category = Suspect; bytes = bytes } ∷ []))
-disturb_step m r a bytes lawful =
-    let (tests, each) = and_parts (not (wrong_length Suspect (length bytes)) && not (spare_bits_set Suspect bytes)) (are_bytes bytes) lawful in
-    let (size, spare) = and_parts (not (wrong_length Suspect (length bytes))) (not (spare_bits_set Suspect bytes)) tests in
-    (each, record { waits = (omega arith, omega arith); category = refl; size = not_not _ size; spare = not_not _ spare }, refl)
+disturb_step m r a bytes lawful = (record { waits = (omega arith, omega arith); known = refl; lawful = lawful; line_after = refl }, refl)
 
 -- it is taken
 abbrev pub taken : Arrival → Letter → Option Reading → List ℤ → Taken
-taken a l x r = record { arrival = a; letter = l; frequencies = frequencies (after r (event_of l x ∷ [])); reading = x }
+taken a l x r = record { arrival = a; letter = l; frequencies = frequencies (after r (event_read l x ∷ [])); reading = x }
 
 pub take_step : (m r : List ℤ) (a : Arrival) (l : Letter) (x : Option Reading) → Reads a.category a.bytes l x → pitch_after l x no_pitch ≡ no_pitch
-    → Step (link m r (a ∷ [])) (Take (Some (taken a l x r))) (link m (after r (event_of l x ∷ [])) [])
+    → Step (link m r (a ∷ [])) (Take (Some (taken a l x r))) (link m (after r (event_read l x ∷ [])) [])
 take_step m r a l x reads pitch = (
-  record { first = refl; read = reads; receiver = ap (λ p. record { memories = after r (event_of l x ∷ []); pitch = p }) (sym pitch); answer = refl },
+  record { first = refl; read = reads; receiver = ap (λ p. record { memories = after r (event_read l x ∷ []); pitch = p }) (sym pitch); answer = refl },
   refl,
 )

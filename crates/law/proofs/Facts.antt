@@ -5,15 +5,16 @@ use Rattle.packet.specs.Codes.{Within}
 use Rattle.law.specs.Arrivals.{are_lawful, is_lawful}
 use Rattle.law.specs.Readings.{Reads}
 use Rattle.law.specs.Ends.{Taken}
-use Rattle.law.specs.Links.{Link, Sent, to_come}
-use Rattle.law.specs.Runs.{Call, Send, Blank, Disturb, Take, RestartSender, RestartReceiver, Frame, Moment, New, Part, frame, restarts, nothing, Run, Side, Step, arrivals_taken, frame_of_part, frames, frames_sent, now, restarts_in, receiver_part, sender_part, the_receiver, the_sender}
+use Rattle.law.specs.Links.{Link, to_come}
+use Rattle.law.specs.Sending.{Sent}
+use Rattle.law.specs.Runs.{Call, Send, Blank, Disturb, Take, RestartSender, RestartReceiver, Frame, CallMade, New, Role, frame, restarts, nothing, Run, LinkEnd, Step, arrivals_taken, frame_of_role, frames_at, frames_sent, now, restarts_at, receiver_role, sender_role, the_receiver, the_sender}
 use Rattle.law.specs.Law.{numbered}
 use Rattle.law.proofs.Keeping.{ArrivalsKept, arrivals_kept, lawful_first, to_come_kept}
 use Rattle.law.proofs.Numbers.{append_nil, none_some, number_push}
 use Rattle.law.proofs.Sent.{sent_within}
 
 -- of a call that is a frame of an end
-OfFrame : {A : Type 0} → (A → Type 0) → Part A → Type 0
+OfFrame : {A : Type 0} → (A → Type 0) → Role A → Type 0
 OfFrame Q (frame a) = Q a
 OfFrame Q restarts = Unit {0}
 OfFrame Q nothing = Unit {0}
@@ -32,9 +33,9 @@ pub record WasRead (x : Taken) : Type 0 where
   pub lawful : is_lawful x.arrival ≡ true
   pub read : Reads x.arrival.category x.arrival.bytes x.letter x.reading
 
-sender_frame : (s t : Link) (c : Call) → Step s c t → OfFrame IsPacket (sender_part c)
+sender_frame : (s t : Link) (c : Call) → Step s c t → OfFrame IsPacket (sender_role c)
 unfolding OfFrame IsPacket
-sender_frame s t (Send n p (Ok f)) h = (sent_within s n p f h.1, h.1.bytes)
+sender_frame s t (Send n p (Ok f)) h = (sent_within f.rate p s.sender f h.0.1.coded, h.0.1.coded.bytes)
 sender_frame s t (Send n p (Err e)) h = tt
 sender_frame s t (Blank (Ok u)) h = tt
 sender_frame s t (Blank (Err e)) h = tt
@@ -43,7 +44,7 @@ sender_frame s t (Take x) h = tt
 sender_frame s t RestartSender h = tt
 sender_frame s t RestartReceiver h = tt
 
-receiver_frame : (s t : Link) (c : Call) → ArrivalsKept s → Step s c t → OfFrame WasRead (receiver_part c)
+receiver_frame : (s t : Link) (c : Call) → ArrivalsKept s → Step s c t → OfFrame WasRead (receiver_role c)
 unfolding OfFrame
 receiver_frame s t (Send n p r) k h = tt
 receiver_frame s t (Blank r) k h = tt
@@ -54,9 +55,9 @@ receiver_frame s t (Take None) k h = tt
 receiver_frame s t RestartSender k h = tt
 receiver_frame s t RestartReceiver k h = tt
 
-module _ {A : Type 0} (side : Side A) (Q : A → Type 0) where
-  one_more : (p : Part A) (fs : List (Frame A)) (m : List ℤ) (e : ℕ) → OfFrame Q p → ((n : ℕ) (f : Frame A) → numbered fs n ≡ Some f → Q f.what)
-      → (n : ℕ) (f : Frame A) → numbered (fs ++ frame_of_part p m e) n ≡ Some f → Q f.what
+module _ {A : Type 0} (side : LinkEnd A) (Q : A → Type 0) where
+  one_more : (p : Role A) (fs : List (Frame A)) (m : List ℤ) (e : ℕ) → OfFrame Q p → ((n : ℕ) (f : Frame A) → numbered fs n ≡ Some f → Q f.what)
+      → (n : ℕ) (f : Frame A) → numbered (fs ++ frame_of_role p m e) n ≡ Some f → Q f.what
   unfolding OfFrame
   one_more (frame a) fs m e q old n f k = elim (number_push fs _ n f k) [
     | inl h ↦ old n f h.1
@@ -65,15 +66,15 @@ module _ {A : Type 0} (side : Side A) (Q : A → Type 0) where
   one_more restarts fs m e q old n f k = old n f (subst (λ l. numbered l n ≡ Some f) (append_nil fs) k)
   one_more nothing fs m e q old n f k = old n f (subst (λ l. numbered l n ≡ Some f) (append_nil fs) k)
 
-  each_frame : (s : Link) → ((h : List Moment) (c : Call) (t : Link) → Run s h → Step (now s h) c t → OfFrame Q (side.part c))
-      → (h : List Moment) → Run s h → (n : ℕ) (f : Frame A) → numbered (frames side h) n ≡ Some f → Q f.what
+  each_frame : (s : Link) → ((h : List CallMade) (c : Call) (t : Link) → Run s h → Step (now s h) c t → OfFrame Q (side.role c))
+      → (h : List CallMade) → Run s h → (n : ℕ) (f : Frame A) → numbered (frames_at side h) n ≡ Some f → Q f.what
   each_frame s step [] r zero f k = absurd (none_some k)
   each_frame s step [] r (suc n) f k = absurd (none_some k)
   each_frame s step (m ∷ h) r n f k =
-      one_more (side.part m.call) (frames side h) (side.memories m.link) (restarts_in side h) (step h m.call m.link r.1 r.0) (each_frame s step h r.1) n f k
+      one_more (side.role m.call) (frames_at side h) (side.memories m.link) (restarts_at side h) (step h m.call m.link r.1 r.0) (each_frame s step h r.1) n f k
 
-pub sent_facts : (s : Link) (h : List Moment) → New s → Run s h → (n : ℕ) (f : Frame (Option Sent)) → numbered (frames_sent h) n ≡ Some f → IsPacket f.what
+pub sent_facts : (s : Link) (h : List CallMade) → New s → Run s h → (n : ℕ) (f : Frame (Option Sent)) → numbered (frames_sent h) n ≡ Some f → IsPacket f.what
 sent_facts s h new r = each_frame the_sender IsPacket s (λ h c t r step. sender_frame (now s h) t c step) h r
 
-pub taken_facts : (s : Link) (h : List Moment) → New s → Run s h → (n : ℕ) (g : Frame Taken) → numbered (arrivals_taken h) n ≡ Some g → WasRead g.what
+pub taken_facts : (s : Link) (h : List CallMade) → New s → Run s h → (n : ℕ) (g : Frame Taken) → numbered (arrivals_taken h) n ≡ Some g → WasRead g.what
 taken_facts s h new r = each_frame the_receiver WasRead s (λ h c t r step. receiver_frame (now s h) t c (arrivals_kept s h new r) step) h r

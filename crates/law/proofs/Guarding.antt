@@ -23,11 +23,11 @@ use Rattle.packet.proofs.Carried.{value_lt}
 use Rattle.packet.proofs.Messages.{guarded_lt, message_is}
 use Rattle.packet.proofs.Numbers.{bit_of_number}
 use Rattle.packet.proofs.Trips.{guarded_word}
+use Rattle.law.specs.Sending.{Sent}
 use Rattle.law.specs.GuardedBits.{SameGuardedCodeBits, changed_besides_pcb0, changed_guarded, corrected_packet}
 use Rattle.law.specs.Arrivals.{Arrival, are_bytes, is_lawful}
 use Rattle.law.specs.Readings.{Reading, Reads}
 use Rattle.law.specs.Ends.{Taken}
-use Rattle.law.specs.Links.{Sent}
 use Rattle.law.specs.Law.{GuardedBitsHold}
 use Rattle.law.proofs.Changes.{changed_all, changed_front, word_corrected}
 

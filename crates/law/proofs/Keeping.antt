@@ -1,12 +1,12 @@
 -- What every link keeps: the places of its line, and lawful arrivals.
-use Rattle.std.proofs.Common.{◌≡◌, ℕ, zero, suc, ◌-◌, ◌<◌, ◌≤◌, true, List, [], ◌∷◌, ◌++◌, length, set, Ok, Err, Some, None, refl, sym, ap, ◌∙◌, subst, arith}
+use Rattle.std.proofs.Common.{◌≡◌, ℕ, Result, zero, suc, ◌-◌, ◌<◌, ◌≤◌, true, List, [], ◌∷◌, ◌++◌, length, set, Ok, Err, Some, None, refl, sym, ap, ◌∙◌, subst, arith}
 use Rattle.std.proofs.lemmas.Bool.{and_parts}
-use Rattle.service.specs.declared.categories.Category.TheVariants.{Blank as BlankFrame}
-use Rattle.service.specs.Categories.{category_of}
-use Rattle.law.specs.Arrivals.{Arrival, are_bytes, are_lawful, is_lawful}
-use Rattle.law.specs.Sending.{drawn}
-use Rattle.law.specs.Links.{Disturbable, Line, Link, Supply, this_line, another, arrival_sent, line_left, supply_left, to_come, to_come_from, with_waiting}
-use Rattle.law.specs.Runs.{Call, Send, Blank, Disturb, Take, RestartSender, RestartReceiver, Moment, New, Run, Step, most_places, now}
+use Rattle.service.specs.declared.refusals.Refusal.{Refusal}
+use Rattle.law.specs.Ends.{Sender}
+use Rattle.law.specs.Arrivals.{Arrival, are_bytes, are_lawful, blank_arrival, is_lawful}
+use Rattle.law.specs.Sending.{Parameters, Sent, arrival_sent, drawn}
+use Rattle.law.specs.Links.{Blanks, Disturbs, Line, Link, Sends, Supply, this_line, other_supply, line_left, most_places, supply_left, to_come, to_come_from, with_waiting}
+use Rattle.law.specs.Runs.{Call, Send, Blank, Disturb, Take, RestartSender, RestartReceiver, CallMade, New, Run, Step, now}
 use Rattle.law.proofs.Numbers.{push_length}
 use Rattle.law.proofs.Sent.{sent_lawful}
 use Rattle.law.proofs.Steps.{blank_refused}
@@ -30,7 +30,7 @@ pub lawful_first : (a : Arrival) (list : List Arrival) → are_lawful (a ∷ lis
 unfolding are_lawful
 lawful_first a list h = (and_parts (is_lawful a) (are_lawful list) h).0
 
-set_length : {A : Type 0} (list : List A) (i : ℕ) (a : A) → length (set list i a) ≡ length list
+pub set_length : {A : Type 0} (list : List A) (i : ℕ) (a : A) → length (set list i a) ≡ length list
 set_length [] i a = refl
 set_length (x ∷ xs) zero a = refl
 set_length (x ∷ xs) (suc i) a = ap suc (set_length xs i a)
@@ -43,7 +43,7 @@ pub record LineKept (line : Line) : Type 0 where
 -- the arrivals that another supply has to come are lawful
 pub SupplyKept : Supply → Type 0
 SupplyKept this_line = Unit {0}
-SupplyKept (another list) = are_lawful list ≡ true
+SupplyKept (other_supply list) = are_lawful list ≡ true
 
 pub record ArrivalsKept (s : Link) : Type 0 where
   pub line : LineKept s.line
@@ -52,12 +52,12 @@ pub record ArrivalsKept (s : Link) : Type 0 where
 pub to_come_kept : (supply : Supply) (line : Line) → LineKept line → SupplyKept supply → are_lawful (to_come_from supply line) ≡ true
 unfolding SupplyKept
 to_come_kept this_line line k l = k.waiting
-to_come_kept (another list) line k l = l
+to_come_kept (other_supply list) line k l = l
 
 pub supply_kept : (supply : Supply) (line : Line) → are_lawful (to_come_from supply line) ≡ true → SupplyKept supply
 unfolding SupplyKept
 supply_kept this_line line h = tt
-supply_kept (another list) line h = h
+supply_kept (other_supply list) line h = h
 
 line_pushed : (line : Line) (a : Arrival) → length line.waiting < line.places → is_lawful a ≡ true → LineKept line → LineKept (with_waiting (line.waiting ++ (a ∷ [])) line)
 line_pushed line a room lawful k = record {
@@ -80,41 +80,56 @@ unfolding SupplyKept
 left_kept this_line line a rest e k l =
     let long = ap length e in
     (record { places = k.places; fits = omega (arith, long, k.fits); waiting = lawful_rest a rest (subst (λ l. are_lawful l ≡ true) e k.waiting) }, tt)
-left_kept (another list) line a rest e k l = (k, lawful_rest a rest (subst (λ l. are_lawful l ≡ true) e l))
+left_kept (other_supply list) line a rest e k l = (k, lawful_rest a rest (subst (λ l. are_lawful l ≡ true) e l))
 
 none_left : (supply : Supply) (line : Line) (rest : List Arrival) → to_come_from supply line ≡ [] → rest ≡ [] → LineKept line → SupplyKept supply
     → LineKept (line_left supply rest line) × SupplyKept (supply_left supply rest)
 unfolding SupplyKept
 none_left this_line line rest e r k l =
     (record { places = k.places; fits = (let z = ap length r in omega arith); waiting = subst (λ l. are_lawful l ≡ true) (e ∙ sym r) k.waiting }, tt)
-none_left (another list) line rest e r k l = (k, subst (λ l. are_lawful l ≡ true) (e ∙ sym r) l)
+none_left (other_supply list) line rest e r k l = (k, subst (λ l. are_lawful l ≡ true) (e ∙ sym r) l)
 
-disturbed_lawful : (s : Link) (n c : ℕ) (bytes : List ℕ) → are_bytes bytes ≡ true → Disturbable s n c bytes → is_lawful (record { category = category_of c; bytes = bytes }) ≡ true
-disturbed_lawful s n c bytes b d = rw (d.size, d.spare, b) refl
-
-pub blank_lawful : is_lawful (record { category = BlankFrame; bytes = [] }) ≡ true
+pub blank_lawful : is_lawful blank_arrival ≡ true
 unfolding are_bytes
 blank_lawful = refl
 
+-- what each call leaves on the line
+send_keeps : (e e' : Sender) (line line' : Line) (n : ℕ) (p : Parameters) (r : Result Sent Refusal) → Sends e line n p r e' line' → LineKept line → LineKept line'
+send_keeps e e' line line' n p (Ok f) (complete, a) k =
+    subst LineKept (sym a.line_after) (line_pushed line (arrival_sent f) a.ready.1 (sent_lawful f.rate p e f a.coded) k)
+send_keeps e e' line line' n p (Err r) (complete, refused, sender, line_is) k = subst LineKept (sym line_is) k
+
+blank_keeps : (e e' : Sender) (line line' : Line) (r : Result Unit Refusal) → Blanks e line r e' line' → LineKept line → LineKept line'
+blank_keeps e e' line line' (Ok u) (room, sender, line_is) k = subst LineKept (sym line_is) (line_pushed line blank_arrival room blank_lawful k)
+blank_keeps e e' line line' (Err r) h k = subst LineKept (sym (blank_refused e e' line line' r h).1) k
+
+disturb_keeps : (line line' : Line) (n c : ℕ) (bytes : List ℕ) (r : Result Unit Refusal) → Disturbs line n c bytes r line' → LineKept line → LineKept line'
+disturb_keeps line line' n c bytes (Ok u) a k = subst LineKept (sym a.line_after) (line_set line (n - 1) _ a.lawful k)
+disturb_keeps line line' n c bytes (Err r) (are, refused, line_is) k = subst LineKept (sym line_is) k
+
 pub step_keeps : (s t : Link) (c : Call) → Step s c t → ArrivalsKept s → ArrivalsKept t
-step_keeps s t (Send n p (Ok f)) h k =
-    subst ArrivalsKept (sym h.2) (record { line = line_pushed s.line (arrival_sent f) h.1.ready.1 (sent_lawful s n p f h.1) k.line; supply = k.supply })
-step_keeps s t (Send n p (Err e)) h k = subst ArrivalsKept (sym h.2) k
-step_keeps s t (Blank (Ok u)) h k = subst ArrivalsKept (sym h.1) (record { line = line_pushed s.line (record { category = BlankFrame; bytes = [] }) h.0 blank_lawful k.line; supply = k.supply })
-step_keeps s t (Blank (Err e)) h k = subst ArrivalsKept (sym (blank_refused s t e h)) k
-step_keeps s t (Disturb n c bytes (Ok u)) h k =
-    subst ArrivalsKept (sym h.2) (record { line = line_set s.line (n - 1) _ (disturbed_lawful s n c bytes h.0 h.1) k.line; supply = k.supply })
-step_keeps s t (Disturb n c bytes (Err e)) h k = subst ArrivalsKept (sym h.2) k
+step_keeps s t (Send n p r) h k = record {
+  line = send_keeps s.sender t.sender s.line t.line n p r h.0 k.line;
+  supply = subst SupplyKept (sym (ap (λ l. l.supply) h.1)) k.supply;
+}
+step_keeps s t (Blank r) h k = record {
+  line = blank_keeps s.sender t.sender s.line t.line r h.0 k.line;
+  supply = subst SupplyKept (sym (ap (λ l. l.supply) h.1)) k.supply;
+}
+step_keeps s t (Disturb n c bytes r) h k = record {
+  line = disturb_keeps s.line t.line n c bytes r h.0 k.line;
+  supply = subst SupplyKept (sym (ap (λ l. l.supply) h.1)) k.supply;
+}
 step_keeps s t (Take (Some x)) h k =
     let (line, supply) = left_kept s.supply s.line x.arrival (to_come t) h.0.first k.line k.supply in
     subst ArrivalsKept (sym h.1) (record { line = line; supply = supply })
 step_keeps s t (Take None) h k =
-    let (line, supply) = none_left s.supply s.line (to_come t) h.0.0 h.0.1 k.line k.supply in
+    let (line, supply) = none_left s.supply s.line (to_come t) h.0.0.0 h.0.0.1 k.line k.supply in
     subst ArrivalsKept (sym h.1) (record { line = line; supply = supply })
 step_keeps s t RestartSender h k = subst ArrivalsKept (sym h) (record { line = k.line; supply = k.supply })
 step_keeps s t RestartReceiver h k = subst ArrivalsKept (sym h) (record { line = k.line; supply = k.supply })
 
-pub arrivals_kept : (s : Link) (h : List Moment) → New s → Run s h → ArrivalsKept (now s h)
+pub arrivals_kept : (s : Link) (h : List CallMade) → New s → Run s h → ArrivalsKept (now s h)
 arrivals_kept s [] new r = record {
   line = record { places = new.places; fits = new.fits; waiting = new.waiting };
   supply = supply_kept s.supply s.line new.supply;
@@ -128,17 +143,22 @@ unfolding drawn
 drawn_lt zero seed h = h
 drawn_lt (suc n) seed h = omega arith
 
+seed_of_send : (e e' : Sender) (line line' : Line) (n : ℕ) (p : Parameters) (r : Result Sent Refusal) → Sends e line n p r e' line' → e.seed < 65536 → e'.seed < 65536
+seed_of_send e e' line line' n p (Ok f) (complete, a) k = subst (λ d. d.seed < 65536) (sym a.sender) (drawn_lt f.draws e.seed k)
+seed_of_send e e' line line' n p (Err r) (complete, refused, sender, line_is) k = subst (λ d. d.seed < 65536) (sym sender) k
+
+seed_of_blank : (e e' : Sender) (line line' : Line) (r : Result Unit Refusal) → Blanks e line r e' line' → e.seed < 65536 → e'.seed < 65536
+seed_of_blank e e' line line' (Ok u) (room, sender, line_is) k = subst (λ d. d.seed < 65536) (sym sender) k
+seed_of_blank e e' line line' (Err r) h k = subst (λ d. d.seed < 65536) (sym (blank_refused e e' line line' r h).0) k
+
 pub seed_step : (s t : Link) (c : Call) → Step s c t → s.sender.seed < 65536 → t.sender.seed < 65536
-seed_step s t (Send n p (Ok f)) h k = let e = ap (λ l. l.sender.seed) h.2 in omega (arith, e, drawn_lt f.draws s.sender.seed k)
-seed_step s t (Send n p (Err e)) h k = subst (λ l. l.sender.seed < 65536) (sym h.2) k
-seed_step s t (Blank (Ok u)) h k = subst (λ l. l.sender.seed < 65536) (sym h.1) k
-seed_step s t (Blank (Err e)) h k = subst (λ l. l.sender.seed < 65536) (sym (blank_refused s t e h)) k
-seed_step s t (Disturb n c bytes (Ok u)) h k = subst (λ l. l.sender.seed < 65536) (sym h.2) k
-seed_step s t (Disturb n c bytes (Err e)) h k = subst (λ l. l.sender.seed < 65536) (sym h.2) k
+seed_step s t (Send n p r) h k = seed_of_send s.sender t.sender s.line t.line n p r h.0 k
+seed_step s t (Blank r) h k = seed_of_blank s.sender t.sender s.line t.line r h.0 k
+seed_step s t (Disturb n c bytes r) h k = subst (λ l. l.sender.seed < 65536) (sym h.1) k
 seed_step s t (Take x) h k = subst (λ l. l.sender.seed < 65536) (sym h.1) k
 seed_step s t RestartSender h k = let e = ap (λ l. l.sender.seed) h in omega (arith, e)
 seed_step s t RestartReceiver h k = subst (λ l. l.sender.seed < 65536) (sym h) k
 
-pub seed_kept : (s : Link) (h : List Moment) → New s → Run s h → (now s h).sender.seed < 65536
+pub seed_kept : (s : Link) (h : List CallMade) → New s → Run s h → (now s h).sender.seed < 65536
 seed_kept s [] new r = let e = ap (λ k. k.seed) new.sender in omega (arith, e)
 seed_kept s (m ∷ h) new r = seed_step (now s h) m.link m.call r.0 (seed_kept s h new r.1)

@@ -23,3 +23,5 @@ pub mod OneSend
 pub mod OneTake
 pub mod OneAnswer
 pub mod OneRun
+pub mod Sessions
+pub mod Delivers

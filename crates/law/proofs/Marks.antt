@@ -1,5 +1,5 @@
 -- The worked examples, computed.
-use Rattle.std.proofs.Common.{◌≡◌, ℕ, Bool, ◌&&◌, eqb, subst, ◌<◌, ◌%◌, ◌^◌, true, [], ◌∷◌, ◌++◌, replicate, pos, negsuc, Some, None, refl, arith}
+use Rattle.std.proofs.Common.{List, Option, ◌≡◌, ℕ, Bool, ◌&&◌, eqb, subst, ◌<◌, ◌%◌, ◌^◌, true, [], ◌∷◌, ◌++◌, replicate, pos, negsuc, Some, None, refl, arith}
 use Rattle.service.specs.declared.rates.Rate.{Rate}
 use Rattle.service.specs.declared.rates.Rate.TheVariants.{Full, Half, Quarter, Eighth}
 use Rattle.lsp.specs.Decay.{decay}
@@ -14,7 +14,11 @@ use Rattle.packet_layout.specs.Layouts.{layout}
 use Rattle.figures.specs.Codebook.{figure_of_codes, sends_index_and_sign}
 use Rattle.law.specs.Sending.{cbseed_of, drawn}
 use Rattle.law.specs.Marks.{SuspectGets, WorkedExamples, only_cbgain8, packet_of_zeros}
-use Rattle.law.specs.GuardedBits.{bit_of_power, with_bit_changed}
+use Rattle.law.specs.GuardedBits.{bit_of_power, corrected_packet, with_bit_changed}
+use Rattle.law.specs.Readings.{Reading, Reads}
+use Rattle.law.proofs.OneReading.{one_reading}
+use Rattle.service.specs.declared.categories.Category.TheVariants.{Suspect}
+use Rattle.service.specs.declared.readings.Letter.{Letter}
 use Rattle.law.proofs.Silent.{reads_both_changed, reads_corrected, reads_pcb0_changed, silent_reading, silent_within, zero_at}
 use Rattle.service.proofs.Computed.{all_at}
 use Rattle.service.specs.declared.readings.Letter.TheVariants.{P, S, D}
@@ -67,6 +71,10 @@ bit_87 : bit_of_power 10 ≡ 87
 unfolding guarded_bits
 bit_87 = refl
 
+-- a letter that it gets is the only one
+gets : (l : Letter) (bytes : List ℕ) (x : Option Reading) → Reads Suspect bytes l x → SuspectGets l bytes
+gets l bytes x read = record { reading = x; read = read; only = λ l' x' read'. (one_reading.only Suspect bytes l' l x' x read' read).0 }
+
 pub worked_examples : WorkedExamples
 worked_examples = record {
   decays = decays;
@@ -78,6 +86,9 @@ worked_examples = record {
   indexes = indexes;
   suspect =
       let low : 10 < 28 = omega arith in
-      subst (λ n. SuspectGets S (with_bit_changed n packet_of_zeros) × SuspectGets P (with_bit_changed 0 packet_of_zeros) × SuspectGets D (with_bit_changed 0 (with_bit_changed n packet_of_zeros))) bit_87
-      ((Some (silent_reading (replicate 10 0)), reads_corrected (replicate 10 0) within 10 low), (Some (silent_reading (replicate 10 0)), reads_pcb0_changed (replicate 10 0) within), (None, reads_both_changed (replicate 10 0) within 10 low));
+      subst (λ n. SuspectGets S (with_bit_changed n packet_of_zeros) × SuspectGets P (with_bit_changed 0 packet_of_zeros) × SuspectGets D (with_bit_changed 0 (with_bit_changed n packet_of_zeros))) bit_87 (
+        gets S (corrected_packet 10 packet_of_zeros) (Some (silent_reading (replicate 10 0))) (reads_corrected (replicate 10 0) within 10 low),
+        gets P (with_bit_changed 0 packet_of_zeros) (Some (silent_reading (replicate 10 0))) (reads_pcb0_changed (replicate 10 0) within),
+        gets D (with_bit_changed 0 (corrected_packet 10 packet_of_zeros)) None (reads_both_changed (replicate 10 0) within 10 low),
+      );
 }

@@ -1,55 +1,71 @@
 -- Every call has one answer on every link.
-use Rattle.std.proofs.Common.{◌≡◌, ℕ, ◌≤◌, ◌⊎◌, Bool, true, false, List, length, Ok, Err, Result, inl, inr, refl, sym, ap, ap₂, subst, ◌∙◌, arith}
-use Rattle.std.proofs.lemmas.Bool.{cases_Bool, cases_lt, false≢true}
+use Rattle.std.proofs.Common.{◌≡◌, ℕ, ◌≤◌, ◌⊎◌, Bool, true, false, not, ◌&&◌, ◌-◌, List, length, set, Ok, Err, Result, inl, inr, refl, sym, ap, ap₂, subst, ◌∙◌, arith}
+use Rattle.std.proofs.lemmas.Bool.{and_parts, cases_Bool, cases_lt, false≢true}
 use Rattle.service.specs.declared.refusals.Fault.TheVariants.{UnknownCategory, Length, SpareBits}
 use Rattle.service.specs.declared.refusals.Refusal.{Refusal}
 use Rattle.service.specs.declared.refusals.Refusal.TheVariants.{Faulty, LineFull, NoArrival}
 use Rattle.service.specs.Categories.{category_of}
 use Rattle.service.specs.Tests.{spare_bits_set, unknown_category, wrong_length}
-use Rattle.law.specs.Arrivals.{are_bytes}
+use Rattle.law.specs.Arrivals.{Arrival, are_bytes, blank_arrival, is_lawful}
 use Rattle.law.specs.Sending.{Parameters}
-use Rattle.law.specs.Links.{Blanks, Disturbs, HasRoom, IsFull, Link, Sends, Waits, link_after_blank, link_after_disturb, link_after_receiver_restart, link_after_sender_restart}
-use Rattle.law.specs.Runs.{Blank, Call, Disturb, RestartReceiver, RestartSender, Send, Step, Take}
+use Rattle.law.specs.Ends.{Sender, new_receiver, new_sender}
+use Rattle.law.specs.Links.{Blanks, Disturbs, HasRoom, IsFull, Line, Link, Sends, Waits, arrival_put, sender_after_blank, with_last, with_waiting}
+use Rattle.law.specs.Runs.{Blank, Call, Disturb, RestartReceiver, RestartSender, Send, Step, Take, with_receiver, with_sender_and_line}
 use Rattle.law.specs.Answers.{Answered, Command, IsComplete, OneAnswerToEachCall, blank, command_of, disturb, restart_receiver, restart_sender, send, take}
 use Rattle.law.proofs.Once.{Once, guard_once, leaf_once}
 use Rattle.law.proofs.OneSend.{send_once, send_some}
 use Rattle.law.proofs.OneTake.{from_supply_once, from_supply_some}
 
-abbrev Outcome : Type 0
-Outcome = Result Unit Refusal × Link
+-- a lawful arrival passes each test
+not_not : (b : Bool) → not b ≡ true → b ≡ false
+not_not true e = absurd (false≢true e)
+not_not false e = refl
 
-abbrev Same : Result Unit Refusal → Result Unit Refusal → Link → Link → Type 0
-Same r r' t t' = (r ≡ r') × (t ≡ t')
+pub record Tests (a : Arrival) : Type 0 where
+  pub size : wrong_length a.category (length a.bytes) ≡ false
+  pub spare : spare_bits_set a.category a.bytes ≡ false
+  pub bytes : are_bytes a.bytes ≡ true
 
-same_outcome : (x y : Outcome) → x ≡ y → Same x.0 y.0 x.1 y.1
-same_outcome x y e = (ap (λ (z : Outcome). z.0) e, ap (λ (z : Outcome). z.1) e)
+pub lawful_parts : (a : Arrival) → is_lawful a ≡ true → Tests a
+lawful_parts a lawful =
+    let (tests, bytes) = and_parts (not (wrong_length a.category (length a.bytes)) && not (spare_bits_set a.category a.bytes)) (are_bytes a.bytes) lawful in
+    let (size, spare) = and_parts (not (wrong_length a.category (length a.bytes))) (not (spare_bits_set a.category a.bytes)) tests in
+    record { size = not_not _ size; spare = not_not _ spare; bytes = bytes }
+
+lawful_whole : (a : Arrival) → wrong_length a.category (length a.bytes) ≡ false → spare_bits_set a.category a.bytes ≡ false → are_bytes a.bytes ≡ true → is_lawful a ≡ true
+lawful_whole a size spare bytes = rw (size, spare, bytes) refl
 
 -- ---- blank
 
-module _ (s : Link) where
-  abbrev BlankFull : Outcome → Type 0
-  BlankFull x = IsFull s.line × (x ≡ (Err LineFull, s))
+abbrev BlankOutcome : Type 0
+BlankOutcome = Result Unit Refusal × Sender × Line
 
-  abbrev BlankJoins : Outcome → Type 0
-  BlankJoins x = x ≡ (Ok tt, link_after_blank s)
+module _ (e : Sender) (line : Line) where
+  abbrev BlankFull : BlankOutcome → Type 0
+  BlankFull x = IsFull line × (x ≡ (Err LineFull, e, line))
 
-  blank_outcome_once : Once (λ x. BlankFull x ⊎ (HasRoom s.line × BlankJoins x))
+  abbrev BlankJoins : BlankOutcome → Type 0
+  BlankJoins x = x ≡ (Ok tt, sender_after_blank e, with_last blank_arrival line)
+
+  blank_outcome_once : Once (λ x. BlankFull x ⊎ (HasRoom line × BlankJoins x))
   blank_outcome_once =
-      guard_once BlankFull (HasRoom s.line) BlankJoins (λ x full room. let f = full.0 in omega arith) (leaf_once (IsFull s.line) (Err LineFull, s))
-      (λ x y e d. e ∙ sym d)
+      guard_once BlankFull (HasRoom line) BlankJoins (λ x full room. let f = full.0 in omega arith) (leaf_once (IsFull line) (Err LineFull, e, line))
+      (λ x y is is'. is ∙ sym is')
 
-  is_blank_outcome : (r : Result Unit Refusal) (t : Link) → Blanks s r t → BlankFull (r, t) ⊎ (HasRoom s.line × BlankJoins (r, t))
-  is_blank_outcome (Ok u) t (room, e) = inr (room, ap (λ k. (Ok u, k)) e)
-  is_blank_outcome (Err LineFull) t (full, e) = inl (full, ap (λ k. (Err LineFull, k)) e)
-  is_blank_outcome (Err e) t none = absurd none
+  is_blank_outcome : (r : Result Unit Refusal) (d : Sender) (l : Line) → Blanks e line r d l → BlankFull (r, d, l) ⊎ (HasRoom line × BlankJoins (r, d, l))
+  is_blank_outcome (Ok u) d l (room, is, is') = inr (room, ap₂ (λ x y. (Ok u, x, y)) is is')
+  is_blank_outcome (Err LineFull) d l (full, is, is') = inl (full, ap₂ (λ x y. (Err LineFull, x, y)) is is')
+  is_blank_outcome (Err r) d l none = absurd none
 
-  blank_once : (r r' : Result Unit Refusal) (t t' : Link) → Blanks s r t → Blanks s r' t' → Same r r' t t'
-  blank_once r r' t t' a b = same_outcome (r, t) (r', t') (blank_outcome_once (r, t) (r', t') (is_blank_outcome r t a) (is_blank_outcome r' t' b))
+  blank_once : (r r' : Result Unit Refusal) (d d' : Sender) (l l' : Line) → Blanks e line r d l → Blanks e line r' d' l' → (r ≡ r') × (d ≡ d') × (l ≡ l')
+  blank_once r r' d d' l l' a b =
+      let same = blank_outcome_once (r, d, l) (r', d', l') (is_blank_outcome r d l a) (is_blank_outcome r' d' l' b) in
+      (ap (λ (x : BlankOutcome). x.0) same, ap (λ (x : BlankOutcome). x.1) same, ap (λ (x : BlankOutcome). x.2) same)
 
-  blank_some : (r : Result Unit Refusal) × (t : Link) × Blanks s r t
-  blank_some = elim (cases_lt (length s.line.waiting) s.line.places) [
-    | inl room ↦ (Ok tt, link_after_blank s, (room, refl))
-    | inr full ↦ (Err LineFull, s, (full, refl))
+  blank_some : (r : Result Unit Refusal) × (d : Sender) × (l : Line) × Blanks e line r d l
+  blank_some = elim (cases_lt (length line.waiting) line.places) [
+    | inl room ↦ (Ok tt, sender_after_blank e, with_last blank_arrival line, (room, refl, refl))
+    | inr full ↦ (Err LineFull, e, line, (full, refl, refl))
   ]
 
 -- ---- disturb
@@ -60,14 +76,17 @@ waits_or_not n m = elim (cases_lt n 1) [
   | inr k ↦ elim (cases_lt m n) [ inl l ↦ inr (λ w. let a = w.1 in omega arith) | inr h ↦ inl (k, h) ]
 ]
 
-module _ (s : Link) (n c : ℕ) (bytes : List ℕ) where
-  abbrev refused : Refusal → Outcome
-  refused e = (Err e, s)
+abbrev DisturbOutcome : Type 0
+DisturbOutcome = Result Unit Refusal × Line
 
-  abbrev disturbed : Link
-  disturbed = link_after_disturb n (record { category = category_of c; bytes = bytes }) s
+module _ (line : Line) (n c : ℕ) (bytes : List ℕ) where
+  abbrev refused : Refusal → DisturbOutcome
+  refused e = (Err e, line)
 
-  abbrev Test : Bool → Refusal → Outcome → Type 0
+  abbrev disturbed : Line
+  disturbed = with_waiting (set line.waiting (n - 1) (arrival_put c bytes)) line
+
+  abbrev Test : Bool → Refusal → DisturbOutcome → Type 0
   Test b e x = (b ≡ true) × (x ≡ refused e)
 
   abbrev is_unknown : Bool
@@ -79,58 +98,62 @@ module _ (s : Link) (n c : ℕ) (bytes : List ℕ) where
   abbrev is_set : Bool
   is_set = spare_bits_set (category_of c) bytes
 
-  abbrev Joins : Outcome → Type 0
+  abbrev Joins : DisturbOutcome → Type 0
   Joins x = x ≡ (Ok tt, disturbed)
 
-  abbrev AtSpare : Outcome → Type 0
+  abbrev AtSpare : DisturbOutcome → Type 0
   AtSpare x = Test is_set (Faulty (SpareBits n)) x ⊎ ((is_set ≡ false) × Joins x)
 
-  abbrev AtLength : Outcome → Type 0
+  abbrev AtLength : DisturbOutcome → Type 0
   AtLength x = Test is_wrong (Faulty (Length n)) x ⊎ ((is_wrong ≡ false) × AtSpare x)
 
-  abbrev AtCategory : Outcome → Type 0
+  abbrev AtCategory : DisturbOutcome → Type 0
   AtCategory x = Test is_unknown (Faulty (UnknownCategory n)) x ⊎ ((is_unknown ≡ false) × AtLength x)
 
-  abbrev NoneWaits : Outcome → Type 0
-  NoneWaits x = (Waits s.line n → ⊥) × (x ≡ refused NoArrival)
+  abbrev NoneWaits : DisturbOutcome → Type 0
+  NoneWaits x = (Waits line n → ⊥) × (x ≡ refused NoArrival)
 
-  abbrev Disturbing : Outcome → Type 0
-  Disturbing x = NoneWaits x ⊎ (Waits s.line n × AtCategory x)
+  abbrev Disturbing : DisturbOutcome → Type 0
+  Disturbing x = NoneWaits x ⊎ (Waits line n × AtCategory x)
 
-  test_once : (b : Bool) (e : Refusal) (B : Outcome → Type 0) → Once B → Once (λ x. Test b e x ⊎ ((b ≡ false) × B x))
+  test_once : (b : Bool) (e : Refusal) (B : DisturbOutcome → Type 0) → Once B → Once (λ x. Test b e x ⊎ ((b ≡ false) × B x))
   test_once b e B once = guard_once (Test b e) (b ≡ false) B (λ x t f. false≢true (sym f ∙ t.0)) (leaf_once (b ≡ true) (refused e)) once
 
   disturbing_once : Once Disturbing
   disturbing_once =
-      guard_once NoneWaits (Waits s.line n) AtCategory (λ x none waits. none.0 waits) (leaf_once (Waits s.line n → ⊥) (refused NoArrival))
+      guard_once NoneWaits (Waits line n) AtCategory (λ x none waits. none.0 waits) (leaf_once (Waits line n → ⊥) (refused NoArrival))
       (test_once is_unknown (Faulty (UnknownCategory n)) AtLength
       (test_once is_wrong (Faulty (Length n)) AtSpare
       (test_once is_set (Faulty (SpareBits n)) Joins (λ x y e d. e ∙ sym d))))
 
-  is_disturbing : (r : Result Unit Refusal) (t : Link) → Disturbs s n c bytes r t → Disturbing (r, t)
-  is_disturbing (Ok u) t (are, d, e) = inr (d.waits, inr (d.category, inr (d.size, inr (d.spare, ap (λ k. (Ok u, k)) e))))
-  is_disturbing (Err NoArrival) t (are, none, e) = inl (none, ap (λ k. (Err NoArrival, k)) e)
-  is_disturbing (Err (Faulty (UnknownCategory i))) t (are, (is, waits, unknown), e) =
+  is_disturbing : (r : Result Unit Refusal) (l : Line) → Disturbs line n c bytes r l → Disturbing (r, l)
+  is_disturbing (Ok u) l a =
+      let tests = lawful_parts (arrival_put c bytes) a.lawful in
+      inr (a.waits, inr (a.known, inr (tests.size, inr (tests.spare, ap (λ k. (Ok u, k)) a.line_after))))
+  is_disturbing (Err NoArrival) l (are, none, e) = inl (none, ap (λ k. (Err NoArrival, k)) e)
+  is_disturbing (Err (Faulty (UnknownCategory i))) l (are, (is, waits, unknown), e) =
       inr (waits, inl (unknown, ap₂ (λ j k. (Err (Faulty (UnknownCategory j)), k)) is e))
-  is_disturbing (Err (Faulty (Length i))) t (are, (is, waits, known, wrong), e) =
+  is_disturbing (Err (Faulty (Length i))) l (are, (is, waits, known, wrong), e) =
       inr (waits, inr (known, inl (wrong, ap₂ (λ j k. (Err (Faulty (Length j)), k)) is e)))
-  is_disturbing (Err (Faulty (SpareBits i))) t (are, (is, waits, known, right, set), e) =
+  is_disturbing (Err (Faulty (SpareBits i))) l (are, (is, waits, known, right, set), e) =
       inr (waits, inr (known, inr (right, inl (set, ap₂ (λ j k. (Err (Faulty (SpareBits j)), k)) is e))))
-  is_disturbing (Err e) t q = absurd q.1
+  is_disturbing (Err e) l q = absurd q.1
 
-  disturb_once : (r r' : Result Unit Refusal) (t t' : Link) → Disturbs s n c bytes r t → Disturbs s n c bytes r' t' → Same r r' t t'
-  disturb_once r r' t t' a b = same_outcome (r, t) (r', t') (disturbing_once (r, t) (r', t') (is_disturbing r t a) (is_disturbing r' t' b))
+  disturb_once : (r r' : Result Unit Refusal) (l l' : Line) → Disturbs line n c bytes r l → Disturbs line n c bytes r' l' → (r ≡ r') × (l ≡ l')
+  disturb_once r r' l l' a b =
+      let same = disturbing_once (r, l) (r', l') (is_disturbing r l a) (is_disturbing r' l' b) in
+      (ap (λ (x : DisturbOutcome). x.0) same, ap (λ (x : DisturbOutcome). x.1) same)
 
-  disturb_some : are_bytes bytes ≡ true → (r : Result Unit Refusal) × (t : Link) × Disturbs s n c bytes r t
-  disturb_some are = elim (waits_or_not n (length s.line.waiting)) [
-    | inr none ↦ (Err NoArrival, s, (are, none, refl))
+  disturb_some : are_bytes bytes ≡ true → (r : Result Unit Refusal) × (l : Line) × Disturbs line n c bytes r l
+  disturb_some are = elim (waits_or_not n (length line.waiting)) [
+    | inr none ↦ (Err NoArrival, line, (are, none, refl))
     | inl waits ↦ elim (cases_Bool is_unknown) [
-      | inl unknown ↦ (Err (Faulty (UnknownCategory n)), s, (are, (refl, waits, unknown), refl))
+      | inl unknown ↦ (Err (Faulty (UnknownCategory n)), line, (are, (refl, waits, unknown), refl))
       | inr known ↦ elim (cases_Bool is_wrong) [
-        | inl wrong ↦ (Err (Faulty (Length n)), s, (are, (refl, waits, known, wrong), refl))
+        | inl wrong ↦ (Err (Faulty (Length n)), line, (are, (refl, waits, known, wrong), refl))
         | inr right ↦ elim (cases_Bool is_set) [
-          | inl set ↦ (Err (Faulty (SpareBits n)), s, (are, (refl, waits, known, right, set), refl))
-          | inr unset ↦ (Ok tt, disturbed, (are, record { waits = waits; category = known; size = right; spare = unset }, refl))
+          | inl set ↦ (Err (Faulty (SpareBits n)), line, (are, (refl, waits, known, right, set), refl))
+          | inr unset ↦ (Ok tt, disturbed, record { waits = waits; known = known; lawful = lawful_whole (arrival_put c bytes) right unset are; line_after = refl })
         ]
       ]
     ]
@@ -139,13 +162,18 @@ module _ (s : Link) (n c : ℕ) (bytes : List ℕ) where
 -- ---- every call
 
 some_answer : (s : Link) (command : Command) → IsComplete command → Answered s command
-some_answer s (send n p) complete = let (r, t, q) = send_some s n p complete in record { call = Send n p r; link = t; given = refl; step = q }
-some_answer s blank complete = let (r, t, q) = blank_some s in record { call = Blank r; link = t; given = refl; step = q }
+some_answer s (send n p) complete =
+    let (r, e, line, q) = send_some s.sender s.line n p complete in
+    record { call = Send n p r; link = with_sender_and_line e line s; given = refl; step = (q, refl) }
+some_answer s blank complete =
+    let (r, e, line, q) = blank_some s.sender s.line in
+    record { call = Blank r; link = with_sender_and_line e line s; given = refl; step = (q, refl) }
 some_answer s (disturb n c bytes) complete =
-    let (r, t, q) = disturb_some s n c bytes complete in record { call = Disturb n c bytes r; link = t; given = refl; step = q }
+    let (r, line, q) = disturb_some s.line n c bytes complete in
+    record { call = Disturb n c bytes r; link = with_sender_and_line s.sender line s; given = refl; step = (q, refl) }
 some_answer s take complete = let (x, t, q) = from_supply_some s in record { call = Take x; link = t; given = refl; step = q }
-some_answer s restart_sender complete = record { call = RestartSender; link = link_after_sender_restart s; given = refl; step = refl }
-some_answer s restart_receiver complete = record { call = RestartReceiver; link = link_after_receiver_restart s; given = refl; step = refl }
+some_answer s restart_sender complete = record { call = RestartSender; link = with_sender_and_line new_sender s.line s; given = refl; step = refl }
+some_answer s restart_receiver complete = record { call = RestartReceiver; link = with_receiver new_receiver s; given = refl; step = refl }
 
 -- what a command was given, and which one it is
 abbrev which : Command → ℕ
@@ -173,22 +201,28 @@ abbrev bytes_of : Command → List ℕ → List ℕ
 bytes_of (disturb n c bytes) d = bytes
 bytes_of _ d = d
 
+-- the same sender and line leave the same link
+same_link : (s t t' : Link) → t.sender ≡ t'.sender → t.line ≡ t'.line → t ≡ with_sender_and_line t.sender t.line s → t' ≡ with_sender_and_line t'.sender t'.line s → t ≡ t'
+same_link s t t' e l is is' = is ∙ ap₂ (λ x y. with_sender_and_line x y s) e l ∙ sym is'
+
 one_step : (s t t' : Link) (c c' : Call) → command_of c ≡ command_of c' → Step s c t → Step s c' t' → (c ≡ c') × (t ≡ t')
-one_step s t t' (Send n p r) (Send n' p' r') e a b =
+one_step s t t' (Send n p r) (Send n' p' r') e (a, is) (b, is') =
     let number : n' ≡ n = sym (ap (λ x. first_number x n) e) in
     let parameters : p' ≡ p = sym (ap (λ x. parameters_of x p) e) in
-    let same = send_once s n p r r' t t' a (subst (λ x. Sends s n x r' t') parameters (subst (λ x. Sends s x p' r' t') number b)) in
-    (ap (λ x. Send x p r) (sym number) ∙ ap (λ x. Send n' x r) (sym parameters) ∙ ap (λ x. Send n' p' x) same.0, same.1)
-one_step s t t' (Blank r) (Blank r') e a b = let same = blank_once s r r' t t' a b in (ap Blank same.0, same.1)
-one_step s t t' (Disturb n c bytes r) (Disturb n' c' bytes' r') e a b =
+    let b' = subst (λ x. Sends s.sender s.line n x r' t'.sender t'.line) parameters (subst (λ x. Sends s.sender s.line x p' r' t'.sender t'.line) number b) in
+    let same = send_once s.sender s.line n p r r' t.sender t'.sender t.line t'.line a b' in
+    (ap (λ x. Send x p r) (sym number) ∙ ap (λ x. Send n' x r) (sym parameters) ∙ ap (λ x. Send n' p' x) same.0, same_link s t t' same.1 same.2 is is')
+one_step s t t' (Blank r) (Blank r') e (a, is) (b, is') =
+    let same = blank_once s.sender s.line r r' t.sender t'.sender t.line t'.line a b in (ap Blank same.0, same_link s t t' same.1 same.2 is is')
+one_step s t t' (Disturb n c bytes r) (Disturb n' c' bytes' r') e (a, is) (b, is') =
     let number : n' ≡ n = sym (ap (λ x. first_number x n) e) in
     let category : c' ≡ c = sym (ap (λ x. second_number x c) e) in
     let list : bytes' ≡ bytes = sym (ap (λ x. bytes_of x bytes) e) in
-    let same = disturb_once s n c bytes r r' t t' a
-    (subst (λ x. Disturbs s n c x r' t') list (subst (λ x. Disturbs s n x bytes' r' t') category (subst (λ x. Disturbs s x c' bytes' r' t') number b))) in (
+    let b' = subst (λ x. Disturbs s.line n c x r' t'.line) list (subst (λ x. Disturbs s.line n x bytes' r' t'.line) category (subst (λ x. Disturbs s.line x c' bytes' r' t'.line) number b)) in
+    let same = disturb_once s.line n c bytes r r' t.line t'.line a b' in (
       ap (λ x. Disturb x c bytes r) (sym number) ∙ ap (λ x. Disturb n' x bytes r) (sym category) ∙ ap (λ x. Disturb n' c' x r) (sym list)
           ∙ ap (λ x. Disturb n' c' bytes' x) same.0,
-      same.1,
+      is ∙ ap (λ x. with_sender_and_line s.sender x s) same.1 ∙ sym is',
     )
 one_step s t t' (Take x) (Take x') e a b = let same = from_supply_once s t t' x x' a b in (ap Take same.0, same.1)
 one_step s t t' RestartSender RestartSender e a b = (refl, a ∙ sym b)

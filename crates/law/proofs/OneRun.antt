@@ -1,15 +1,17 @@
 -- Every run of takes has one answer, and takes one after another are take calls.
-use Rattle.std.proofs.Common.{◌≡◌, ℕ, zero, suc, ◌+◌, ◌-◌, ◌<◌, ◌≤◌, List, [], ◌∷◌, ◌++◌, length, map, ℤ, Some, refl, sym, ap, ap₂, subst, ◌∙◌, inl, inr, append_assoc, append-nil, arith}
-use Rattle.std.proofs.lemmas.Bool.{cases_eq, cases_order}
-use Rattle.std.proofs.lemmas.List.{length-append, length-map, length_push, map-append}
+use Rattle.std.proofs.Common.{◌≡◌, ℕ, zero, suc, ◌+◌, ◌-◌, ◌<◌, ◌≤◌, List, [], ◌∷◌, ◌++◌, length, map, Some, refl, sym, ap, ap₂, subst, ◌∙◌, inl, inr, append_assoc, append-nil, arith, Bool, true, false, Ok, Err, Result, reverse}
+use Rattle.std.proofs.lemmas.Bool.{false≢true, cases_eq, cases_order}
+use Rattle.std.proofs.lemmas.List.{length-append, length-map, length_push, reverse-append}
+use Rattle.service.specs.declared.refusals.Refusal.{Refusal}
+use Rattle.service.specs.declared.refusals.Refusal.TheVariants.{UnlawfulReel}
 use Rattle.service.specs.declared.readings.RunEnd.{RunEnd}
 use Rattle.service.specs.declared.readings.RunEnd.TheVariants.{Wanted, RowsFull, SupplyEmpty}
 use Rattle.law.specs.Arrivals.{Arrival}
-use Rattle.law.specs.Ends.{Receiver, Taken, TakesOne}
-use Rattle.law.specs.Links.{Line, Link, Supply, another, line_left, link_after_take, supply_left, this_line, to_come, to_come_from}
-use Rattle.law.specs.Rows.{Ended, Row, RunAnswer, Runs, TakesAll, row_of}
-use Rattle.law.specs.Runs.{Frame, Moment, Part, Run, Step, Take, arrivals_taken, frame, frame_of_part, nothing, now, restarts, restarts_in, the_receiver}
-use Rattle.law.specs.Answers.{EachTakeIsACall, OneAnswerToEachRun, RunAnswered, SameRun, TakesAreCalls}
+use Rattle.law.specs.Ends.{Receiver, Taken, TakesOne, new_receiver}
+use Rattle.law.specs.Links.{Line, Link, Supply, other_supply, line_left, link_after_take, supply_left, this_line, to_come, to_come_from}
+use Rattle.law.specs.Rows.{Ended, Row, RunAnswer, RunsTakes, StartsPage, TakesAll, row_of}
+use Rattle.law.specs.Runs.{CallMade, Run, Step, Take, now}
+use Rattle.law.specs.Answers.{ChainOfTakesIsARun, ChainsOfTakesJoin, EachTakeIsACall, OneAnswerToEachRunOfTakes, OnePage, RunAnswered, SameRun, TakesAreCalls}
 use Rattle.law.proofs.OneTake.{take_once, take_some, takes_on, to_come_after}
 
 -- ---- a run has an answer
@@ -110,8 +112,8 @@ ended_not_more RowsFull wanted n m places queued more rest (k, e) l h g s = omeg
 ended_not_more SupplyEmpty wanted n m places queued more rest (k, u, e) l h g s = let z = ap length e in omega arith
 
 module _ (wanted places : ℕ) (e : Receiver) (supply : List Arrival) (queue : List Row) where
-  not_shorter : (a a' : RunAnswer) (d d' : Receiver) (rest rest' : List Arrival) (rows rows' : List Row) (r : Runs wanted places e supply queue a d rest rows)
-      (q : Runs wanted places e supply queue a' d' rest' rows') → length r.taken < length q.taken → ⊥
+  not_shorter : (a a' : RunAnswer) (d d' : Receiver) (rest rest' : List Arrival) (rows rows' : List Row) (r : RunsTakes wanted places e supply queue a d rest rows)
+      (q : RunsTakes wanted places e supply queue a' d' rest' rows') → length r.taken < length q.taken → ⊥
   not_shorter a a' d d' rest rest' rows rows' r q less =
       let n = length r.taken in
       let m = length q.taken in
@@ -123,8 +125,8 @@ module _ (wanted places : ℕ) (e : Receiver) (supply : List Arrival) (queue : L
       let more = ended_not_more a.end wanted n m places (length rows) (m - n) rest r.ended q.wanted_at_most (omega arith) (omega arith) (omega arith) in
       omega arith
 
-  as_many : (a a' : RunAnswer) (d d' : Receiver) (rest rest' : List Arrival) (rows rows' : List Row) (r : Runs wanted places e supply queue a d rest rows)
-      (q : Runs wanted places e supply queue a' d' rest' rows') → length r.taken ≡ length q.taken
+  as_many : (a a' : RunAnswer) (d d' : Receiver) (rest rest' : List Arrival) (rows rows' : List Row) (r : RunsTakes wanted places e supply queue a d rest rows)
+      (q : RunsTakes wanted places e supply queue a' d' rest' rows') → length r.taken ≡ length q.taken
   as_many a a' d d' rest rest' rows rows' r q = elim (cases_order (length r.taken) (length q.taken)) [
     | inl same ↦ same
     | inr (inl less) ↦ absurd (not_shorter a a' d d' rest rest' rows rows' r q less)
@@ -146,8 +148,8 @@ module _ (wanted places : ℕ) (e : Receiver) (supply : List Arrival) (queue : L
   abbrev answer_of : ℕ → RunEnd → RunAnswer
   answer_of rows end = record { rows = rows; end = end }
 
-  run_once : (a a' : RunAnswer) (d d' : Receiver) (rest rest' : List Arrival) (rows rows' : List Row) → Runs wanted places e supply queue a d rest rows
-      → Runs wanted places e supply queue a' d' rest' rows' → SameRun a a' d d' rest rest' rows rows'
+  run_once : (a a' : RunAnswer) (d d' : Receiver) (rest rest' : List Arrival) (rows rows' : List Row) → RunsTakes wanted places e supply queue a d rest rows
+      → RunsTakes wanted places e supply queue a' d' rest' rows' → SameRun a a' d d' rest rest' rows rows'
   run_once a a' d d' rest rest' rows rows' r q =
       let long = as_many a a' d d' rest rest' rows rows' r q in
       let same = takes_once e supply r.taken q.taken d d' rest rest' long r.takes q.takes in
@@ -160,26 +162,26 @@ module _ (wanted places : ℕ) (e : Receiver) (supply : List Arrival) (queue : L
         rows = queues;
       }
 
-pub one_run : OneAnswerToEachRun
+pub one_run : OneAnswerToEachRunOfTakes
 one_run = record { some = run_some; only = run_once }
 
 -- ---- takes one after another are calls
 
 line_as_is : (u : Supply) (line : Line) → line_left u (to_come_from u line) line ≡ line
 line_as_is this_line line = refl
-line_as_is (another list) line = refl
+line_as_is (other_supply list) line = refl
 
 supply_as_is : (u : Supply) (line : Line) → supply_left u (to_come_from u line) ≡ u
 supply_as_is this_line line = refl
-supply_as_is (another list) line = refl
+supply_as_is (other_supply list) line = refl
 
 line_left_again : (u : Supply) (line : Line) (list rest : List Arrival) → line_left (supply_left u list) rest (line_left u list line) ≡ line_left u rest line
 line_left_again this_line line list rest = refl
-line_left_again (another l) line list rest = refl
+line_left_again (other_supply l) line list rest = refl
 
 supply_left_again : (u : Supply) (list rest : List Arrival) → supply_left (supply_left u list) rest ≡ supply_left u rest
 supply_left_again this_line list rest = refl
-supply_left_again (another l) list rest = refl
+supply_left_again (other_supply l) list rest = refl
 
 abbrev link_of : Link → Receiver → Line → Supply → Link
 link_of s e line supply = record { sender = s.sender; line = line; receiver = e; supply = supply }
@@ -193,65 +195,92 @@ link_taken_again : (e d : Receiver) (list rest : List Arrival) (s : Link) → li
 link_taken_again e d list rest s =
     ap₂ (λ line u. link_of s e line u) (line_left_again s.supply s.line list rest) (supply_left_again s.supply list rest)
 
--- what was taken in a history
-abbrev taken_in : List Moment → List Taken
-taken_in h = map (λ g. g.what) (arrivals_taken h)
-
--- the era of a frame is no part of it
-what_of_part : (a : Part Taken) (m : List ℤ) (n k : ℕ) → map (λ g. g.what) (frame_of_part a m n) ≡ map (λ g. g.what) (frame_of_part a m k)
-what_of_part (frame x) m n k = refl
-what_of_part restarts m n k = refl
-what_of_part nothing m n k = refl
-
 -- a call before a history
-module _ (s : Link) (m : Moment) where
-  abbrev before : List Moment → List Moment
+module _ (s : Link) (m : CallMade) where
+  abbrev before : List CallMade → List CallMade
   before h = h ++ (m ∷ [])
 
-  now_before : (h : List Moment) → now s (before h) ≡ now m.link h
+  pub now_before : (h : List CallMade) → now s (before h) ≡ now m.link h
   now_before [] = refl
   now_before (k ∷ h) = refl
 
-  run_before : Step s m.call m.link → (h : List Moment) → Run m.link h → Run s (before h)
+  pub run_before : Step s m.call m.link → (h : List CallMade) → Run m.link h → Run s (before h)
   run_before step [] run = (step, tt)
   run_before step (k ∷ h) (last, run) = (subst (λ t. Step t k.call k.link) (sym (now_before h)) last, run_before step h run)
 
--- a take before a history
-taken_before : (x : Taken) (t : Link) (h : List Moment) → taken_in (h ++ (record { call = Take (Some x); link = t } ∷ [])) ≡ x ∷ taken_in h
-taken_before x t [] = refl
-taken_before x t (k ∷ h) =
-    let m : Moment = record { call = Take (Some x); link = t } in
-    let part = the_receiver.part k.call in
-    let memories = the_receiver.memories k.link in
-    let n = restarts_in the_receiver (h ++ (m ∷ [])) in
-    let n' = restarts_in the_receiver h in
-    map-append (λ (g : Frame Taken). g.what) (arrivals_taken (h ++ (m ∷ []))) (frame_of_part part memories n)
-    ∙ ap₂ (λ xs ys. xs ++ ys) (taken_before x t h) (what_of_part part memories n n')
-    ∙ ap (λ xs. x ∷ xs) (sym (map-append (λ (g : Frame Taken). g.what) (arrivals_taken h) (frame_of_part part memories n')))
+-- the calls of a history with one before them, the first first
+pub calls_before : (m : CallMade) (h : List CallMade) → map (λ k. k.call) (reverse (h ++ (m ∷ []))) ≡ m.call ∷ map (λ k. k.call) (reverse h)
+calls_before m h = ap (map (λ k. k.call)) (reverse-append h (m ∷ []))
 
 -- a take call, and those after it
 take_then : (s : Link) (x : Taken) (xs : List Taken) (d e : Receiver) (list rest : List Arrival) → TakesOne s.receiver (to_come s) x d list
     → TakesAreCalls (link_after_take d list s) xs e rest → TakesAreCalls s (x ∷ xs) e rest
 take_then s x xs d e list rest one r =
     let t = link_after_take d list s in
-    let m : Moment = record { call = Take (Some x); link = t } in
+    let m : CallMade = record { call = Take (Some x); link = t } in
     record {
       history = r.history ++ (m ∷ []);
       run = run_before s m (takes_on s (Some x) d list one) r.history r.run;
+      calls = calls_before m r.history ∙ ap (λ l. Take (Some x) ∷ l) r.calls;
       link = now_before s m r.history ∙ r.link ∙ link_taken_again e d list rest s;
-      taken = taken_before x t r.history ∙ ap (λ ys. x ∷ ys) r.taken;
     }
 
 are_calls : (xs : List Taken) (s : Link) (e : Receiver) (rest : List Arrival) → TakesAll s.receiver (to_come s) xs e rest → TakesAreCalls s xs e rest
 are_calls [] s e rest (kept, left) = record {
   history = [];
   run = tt;
+  calls = refl;
   link = link_as_is s ∙ ap₂ (λ d list. link_after_take d list s) (sym kept) (sym left);
-  taken = refl;
 }
 are_calls (x ∷ xs) s e rest (d, list, one, more) =
     take_then s x xs d e list rest one
     (are_calls xs (link_after_take d list s) e rest (subst (λ l. TakesAll d l xs e rest) (sym (to_come_after d list s)) more))
 
-pub takes_are_calls : EachTakeIsACall
+pub takes_are_calls : ChainOfTakesIsARun
 takes_are_calls s xs e rest takes = are_calls xs s e rest takes
+
+pub each_take_is_a_call : EachTakeIsACall
+each_take_is_a_call s x e rest takes = takes_on s x e rest takes
+
+-- ---- chains of takes join
+
+pub takes_join : ChainsOfTakesJoin
+takes_join e d c supply list rest [] ys (kept, left) more = subst (λ l. TakesAll e l ys c rest) left (subst (λ r. TakesAll r list ys c rest) kept more)
+takes_join e d c supply list rest (x ∷ xs) ys (b, between, one, others) more = (b, between, one, takes_join b d c between list rest xs ys others more)
+
+-- ---- a page
+
+page_some : (e : Receiver) (supply : List Arrival) → (xs : List Taken) × (d : Receiver) × TakesAll e supply xs d []
+page_some e [] = ([], e, (refl, refl))
+page_some e (a ∷ supply) =
+    let (x, b, one) = take_some e a supply in
+    let (xs, d, more) = page_some b supply in
+    (x ∷ xs, d, (b, supply, one, more))
+
+start_some : (lawful : Bool) (e : Receiver) → (r : Result Unit Refusal) × (d : Receiver) × StartsPage lawful e r d
+start_some true e = (Ok tt, new_receiver, (refl, refl))
+start_some false e = (Err UnlawfulReel, e, (refl, refl))
+
+-- what the page call does, by whether the reel is lawful
+start_is : (lawful : Bool) (e d : Receiver) (r : Result Unit Refusal) → StartsPage lawful e r d → (r ≡ (start_some lawful e).0) × (d ≡ (start_some lawful e).1)
+unfolding start_some
+start_is true e d (Ok u) (is, new) = (refl, new)
+start_is false e d (Ok u) (is, new) = absurd (false≢true is)
+start_is true e d (Err UnlawfulReel) (is, kept) = absurd (false≢true (sym is))
+start_is false e d (Err UnlawfulReel) (is, kept) = (refl, kept)
+start_is lawful e d (Err r) none = absurd none
+
+pub one_page : OnePage
+one_page = record {
+  start = start_some;
+  only_start = λ lawful e d d' r r' a b.
+      let p = start_is lawful e d r a in
+      let q = start_is lawful e d' r' b in
+      (p.0 ∙ sym q.0, p.1 ∙ sym q.1);
+  some = λ supply. let (xs, d, takes) = page_some new_receiver supply in (map row_of xs, (xs, d, takes, refl));
+  only = λ supply rows rows' (xs, d, takes, is) (ys, d', takes', is').
+      let l = takes_length new_receiver supply xs d [] takes in
+      let l' = takes_length new_receiver supply ys d' [] takes' in
+      let same = takes_once new_receiver supply xs ys d d' [] [] (omega (arith, l, l')) takes takes' in
+      is ∙ ap (map row_of) same.taken ∙ sym is';
+}

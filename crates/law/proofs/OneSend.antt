@@ -1,5 +1,5 @@
 -- Sending has one answer: the first of its tests that fails, or a packet.
-use Rattle.std.proofs.Common.{◌≡◌, ◌≢◌, ℕ, ◌+◌, ◌<◌, ◌⊎◌, Bool, true, false, List, length, Ok, Err, Result, inl, inr, refl, sym, ap, subst, ◌∙◌, arith}
+use Rattle.std.proofs.Common.{◌≡◌, ◌≢◌, ℕ, ◌+◌, ◌<◌, ◌⊎◌, Bool, true, false, List, length, Ok, Err, Result, inl, inr, refl, sym, ap, ap₂, subst, ◌∙◌, arith}
 use Rattle.std.proofs.lemmas.Bool.{cases_eq, cases_lt, false≢true, false_from_ne_true}
 use Rattle.service.specs.declared.rates.Rate.{Rate}
 use Rattle.service.specs.declared.rates.Rate.TheVariants.{Full, Half, Quarter, Eighth}
@@ -12,9 +12,11 @@ use Rattle.packet.specs.Calls.{packet}
 use Rattle.figures.specs.Subframes.{FirstToFail}
 use Rattle.figures.specs.Codebook.{codebook_allowed, parameter_at}
 use Rattle.figures.specs.Pitch.{pair_at, pitch_allowed}
-use Rattle.law.specs.Sending.{AreComplete, CodebooksAllowed, Draws, Encodes, FrequenciesAllowed, NoDraw, Parameters, PitchesAllowed, frequency_allowed, frequency_at}
-use Rattle.law.specs.Links.{Accepts, HasRoom, IsFull, Link, Sends, Sent, link_after_send}
-use Rattle.law.proofs.Encoded.{codes_or_none, draws_once, encoded_once, no_draw_made, same_codes, unseeded}
+use Rattle.law.specs.Sending.{AreComplete, CodebooksAllowed, CodesFrame, FrequenciesAllowed, NoDraw, Parameters, PitchesAllowed, Sent, arrival_sent, frequency_allowed, frequency_at, sender_after}
+use Rattle.law.proofs.Sent.{sent_bytes}
+use Rattle.law.specs.Ends.{Sender}
+use Rattle.law.specs.Links.{HasRoom, IsFull, Line, Sends, with_last}
+use Rattle.law.proofs.Encoded.{codes_or_none, draws_once, encoded_once, no_draw_made, same_codes}
 use Rattle.law.proofs.Once.{Once, either_once, guard_once, leaf_once}
 use Rattle.law.proofs.Searches.{all_or_first, first_once}
 
@@ -67,39 +69,37 @@ same_sent f g rate codes draws bytes bytes' =
     ∙ ap (λ x. sent_of g.draws g.rate x (packet g.rate x)) codes
     ∙ ap (λ x. sent_of g.draws g.rate g.codes x) (sym bytes')
 
-accepted_once : (s : Link) (n : ℕ) (p : Parameters) (f g : Sent) → Accepts s n p f → Accepts s n p g → f ≡ g
-accepted_once s n p f g a b =
-    let rate : f.rate ≡ g.rate = distinct_numbers.rates f.rate g.rate (a.ready.0 ∙ sym b.ready.0) in
-    let e : unseeded f.codes ≡ unseeded g.codes =
-    encoded_once g.rate p s.sender.memories f.codes g.codes (subst (λ r. Encodes r p s.sender.memories f.codes) rate a.codes) b.codes in
-    let d = draws_once g.rate f.codes g.codes s.sender.seed f.draws g.draws e (subst (λ r. Draws r f.codes s.sender.seed f.draws) rate a.draws) b.draws in
-    same_sent f g rate (same_codes f.codes g.codes e d.1) d.0 a.bytes b.bytes
+coded_once : (q : Rate) (p : Parameters) (e : Sender) (f g : Sent) → CodesFrame q p e f → CodesFrame q p e g → f ≡ g
+coded_once q p e f g a b =
+    let same = encoded_once q p e.memories f.codes g.codes a.codes b.codes in
+    let d = draws_once q f.codes g.codes e.seed f.draws g.draws same a.draws b.draws in
+    same_sent f g (a.rate ∙ sym b.rate) (same_codes f.codes g.codes same d.1) d.0 (sent_bytes q p e f a) (sent_bytes q p e g b)
 
 -- ---- the tests, one after another
 
 abbrev pub Outcome : Type 0
-Outcome = Result Sent Refusal × Link
+Outcome = Result Sent Refusal × Sender × Line
 
-module _ (s : Link) (n : ℕ) (p : Parameters) where
-  -- refused, and the link as it was
+module _ (e : Sender) (line : Line) (n : ℕ) (p : Parameters) where
+  -- refused, and the sender and the line as they were
   abbrev refused : Refusal → Outcome
-  refused e = (Err e, s)
+  refused r = (Err r, e, line)
 
   -- the first that fails is named
   abbrev Fails : (Refusal → Outcome) → ℕ → (ℕ → Bool) → (ℕ → Refusal) → Outcome → Type 0
   Fails out limit passes refusal x = (i : ℕ) × FirstToFail limit passes i × (x ≡ out (refusal (i + 1)))
 
   fails_once : (out : Refusal → Outcome) (limit : ℕ) (passes : ℕ → Bool) (refusal : ℕ → Refusal) → Once (Fails out limit passes refusal)
-  fails_once out limit passes refusal x y (i, f, e) (j, g, d) = e ∙ ap (λ k. out (refusal (k + 1))) (same_fails limit passes i j f g) ∙ sym d
+  fails_once out limit passes refusal x y (i, f, is) (j, g, is') = is ∙ ap (λ k. out (refusal (k + 1))) (same_fails limit passes i j f g) ∙ sym is'
 
   not_passed : (out : Refusal → Outcome) (limit : ℕ) (passes : ℕ → Bool) (refusal : ℕ → Refusal) (x : Outcome) → Fails out limit passes refusal x → ((i : ℕ) → i < limit → passes i ≡ true) → ⊥
-  not_passed out limit passes refusal x (i, f, e) all = false≢true (sym f.fails ∙ all i f.within)
+  not_passed out limit passes refusal x (i, f, is) all = false≢true (sym f.fails ∙ all i f.within)
 
   abbrev NoDrawIsLeft : Rate → Outcome → Type 0
-  NoDrawIsLeft rate x = NoDraw rate p s.sender.memories s.sender.seed × (x ≡ refused AllOnesDrawn)
+  NoDrawIsLeft rate x = NoDraw rate p e.memories e.seed × (x ≡ refused AllOnesDrawn)
 
   abbrev IsSent : Rate → Outcome → Type 0
-  IsSent rate x = (f : Sent) × (f.rate ≡ rate) × Accepts s n p f × (x ≡ (Ok f, link_after_send p f s))
+  IsSent rate x = (f : Sent) × CodesFrame rate p e f × (x ≡ (Ok f, sender_after p f e, with_last (arrival_sent f) line))
 
   abbrev AtDraws : Rate → Outcome → Type 0
   AtDraws rate x = NoDrawIsLeft rate x ⊎ IsSent rate x
@@ -132,7 +132,7 @@ module _ (s : Link) (n : ℕ) (p : Parameters) where
   AtFrequencies rate x = FrequencyFails x ⊎ (FrequenciesAllowed p × AtPitches rate x)
 
   abbrev AtRoom : Rate → Outcome → Type 0
-  AtRoom rate x = (IsFull s.line × (x ≡ refused LineFull)) ⊎ (HasRoom s.line × AtFrequencies rate x)
+  AtRoom rate x = (IsFull line × (x ≡ refused LineFull)) ⊎ (HasRoom line × AtFrequencies rate x)
 
   abbrev Named : Outcome → Type 0
   Named x = (rate : Rate) × ((rate_is rate).number ≡ n) × AtRoom rate x
@@ -142,16 +142,14 @@ module _ (s : Link) (n : ℕ) (p : Parameters) where
 
   -- each of them has one outcome
   sent_once : (rate : Rate) → Once (IsSent rate)
-  sent_once rate x y (f, r, a, e) (g, q, b, d) = e ∙ ap (λ h. (Ok h, link_after_send p h s)) (accepted_once s n p f g a b) ∙ sym d
+  sent_once rate x y (f, a, is) (g, b, is') = is ∙ ap (λ h. (Ok h, sender_after p h e, with_last (arrival_sent h) line)) (coded_once rate p e f g a b) ∙ sym is'
 
   draws_apart : (rate : Rate) (x y : Outcome) → NoDrawIsLeft rate x → IsSent rate y → ⊥
-  draws_apart rate x y (none, e) (f, r, a, d) =
-      no_draw_made rate p s.sender.memories f.codes s.sender.seed f.draws none
-      (subst (λ q. Encodes q p s.sender.memories f.codes) r a.codes) (subst (λ q. Draws q f.codes s.sender.seed f.draws) r a.draws)
+  draws_apart rate x y (none, is) (f, a, is') = no_draw_made rate p e.memories f.codes e.seed f.draws none a.codes a.draws
 
   at_draws_once : (rate : Rate) → Once (AtDraws rate)
   at_draws_once rate =
-      either_once (NoDrawIsLeft rate) (IsSent rate) (draws_apart rate) (leaf_once (NoDraw rate p s.sender.memories s.sender.seed) (refused AllOnesDrawn)) (sent_once rate)
+      either_once (NoDrawIsLeft rate) (IsSent rate) (draws_apart rate) (leaf_once (NoDraw rate p e.memories e.seed) (refused AllOnesDrawn)) (sent_once rate)
 
   at_codebooks_once : (rate : Rate) → Once (AtCodebooks rate)
   at_codebooks_once rate =
@@ -172,8 +170,8 @@ module _ (s : Link) (n : ℕ) (p : Parameters) where
 
   at_room_once : (rate : Rate) → Once (AtRoom rate)
   at_room_once rate =
-      guard_once (λ x. IsFull s.line × (x ≡ refused LineFull)) (HasRoom s.line) (AtFrequencies rate)
-      (λ x full room. let f = full.0 in omega arith) (leaf_once (IsFull s.line) (refused LineFull)) (at_frequencies_once rate)
+      guard_once (λ x. IsFull line × (x ≡ refused LineFull)) (HasRoom line) (AtFrequencies rate)
+      (λ x full room. let f = full.0 in omega arith) (leaf_once (IsFull line) (refused LineFull)) (at_frequencies_once rate)
 
   named_once : Once Named
   named_once x y (rate, is, a) (rate', is', b) =
@@ -183,82 +181,90 @@ module _ (s : Link) (n : ℕ) (p : Parameters) where
   outcome_once = either_once Unnamed Named (λ x y none named. none.0 named.0 named.1) (leaf_once ((rate : Rate) → (rate_is rate).number ≢ n) (refused Codes)) named_once
 
   -- what the rules of sending say is one of these
-  is_outcome : (r : Result Sent Refusal) (t : Link) → Sends s n p r t → Unnamed (r, t) ⊎ Named (r, t)
-  is_outcome (Ok f) t (complete, a, e) =
-      inr (f.rate, a.ready.0, inr (a.ready.1, inr (a.frequencies, inr (a.codes.pitch.allowed, inr (a.codes.codebook.allowed, inr (f, refl, a, ap (λ u. (Ok f, u)) e))))))
-  is_outcome (Err Codes) t (complete, none, e) = inl (none, ap (λ u. (Err Codes, u)) e)
-  is_outcome (Err LineFull) t (complete, ((rate, is), full), e) = inr (rate, is, inl (full, ap (λ u. (Err LineFull, u)) e))
-  is_outcome (Err (Frequency i)) t (complete, ((rate, ready), (j, f, is)), e) =
-      inr (rate, ready.0, inr (ready.1, inl (j, f, ap (λ u. (Err (Frequency i), u)) e ∙ ap refused (distinct_numbers.refusals (Frequency i) (Frequency (j + 1)) is))))
-  is_outcome (Err (Pitch i)) t (complete, (rate, ready, frequencies, (j, f, is)), e) =
-      inr (rate, ready.0, inr (ready.1, inr (frequencies, inl (j, f, ap (λ u. (Err (Pitch i), u)) e ∙ ap refused (distinct_numbers.refusals (Pitch i) (Pitch (j + 1)) is)))))
-  is_outcome (Err (Codebook i)) t (complete, (rate, ready, frequencies, pitches, (j, f, is)), e) =
-      inr (rate, ready.0, inr (ready.1, inr (frequencies, inr (pitches, inl (j, f, ap (λ u. (Err (Codebook i), u)) e ∙ ap refused (distinct_numbers.refusals (Codebook i) (Codebook (j + 1)) is))))))
-  is_outcome (Err AllOnesDrawn) t (complete, (rate, ready, frequencies, none), e) =
-      inr (rate, ready.0, inr (ready.1, inr (frequencies, inr (no_draw_pitches rate none, inr (no_draw_codebooks rate none, inl (none, ap (λ u. (Err AllOnesDrawn, u)) e))))))
-    where
-      no_draw_pitches : (rate : Rate) → NoDraw rate p s.sender.memories s.sender.seed → PitchesAllowed rate p
-      no_draw_pitches Eighth (c, e, ones) = e.pitch.allowed
-      no_draw_pitches Quarter none = absurd none
-      no_draw_pitches Half none = absurd none
-      no_draw_pitches Full none = absurd none
+  abbrev Answer : Outcome → Type 0
+  Answer x = Unnamed x ⊎ Named x
 
-      no_draw_codebooks : (rate : Rate) → NoDraw rate p s.sender.memories s.sender.seed → CodebooksAllowed rate p
-      no_draw_codebooks Eighth (c, e, ones) = e.codebook.allowed
-      no_draw_codebooks Quarter none = absurd none
-      no_draw_codebooks Half none = absurd none
-      no_draw_codebooks Full none = absurd none
-  is_outcome (Err (Faulty f)) t (complete, none, e) = absurd none
-  is_outcome (Err NoArrival) t (complete, none, e) = absurd none
-  is_outcome (Err ShortBuffer) t (complete, none, e) = absurd none
-  is_outcome (Err UnlawfulReel) t (complete, none, e) = absurd none
+  as_was : (r : Refusal) (e' : Sender) (line' : Line) → e' ≡ e → line' ≡ line → (Err r, e', line') ≡ refused r
+  as_was r e' line' is is' = ap₂ (λ x y. (Err r, x, y)) is is'
 
-  pub send_once : (r r' : Result Sent Refusal) (t t' : Link) → Sends s n p r t → Sends s n p r' t' → (r ≡ r') × (t ≡ t')
-  send_once r r' t t' a b =
-      let e = outcome_once (r, t) (r', t') (is_outcome r t a) (is_outcome r' t' b) in
-      (ap (λ (x : Outcome). x.0) e, ap (λ (x : Outcome). x.1) e)
+  is_outcome : (r : Result Sent Refusal) (e' : Sender) (line' : Line) → Sends e line n p r e' line' → Answer (r, e', line')
+  is_outcome (Ok f) e' line' (complete, a) =
+      let c = a.coded in
+      inr (f.rate, a.ready.0, inr (a.ready.1, inr (c.frequencies, inr (c.codes.pitch.allowed, inr (c.codes.codebook.allowed, inr (f, c, ap₂ (λ x y. (Ok f, x, y)) a.sender a.line_after))))))
+  is_outcome (Err Codes) e' line' (complete, none, is, is') = inl (none, as_was Codes e' line' is is')
+  is_outcome (Err LineFull) e' line' (complete, ((rate, named), full), is, is') = inr (rate, named, inl (full, as_was LineFull e' line' is is'))
+  is_outcome (Err (Frequency i)) e' line' (complete, (rate, ready, (j, f, name)), is, is') =
+      inr (rate, ready.0, inr (ready.1, inl (j, f, as_was (Frequency i) e' line' is is' ∙ ap refused (distinct_numbers.refusals (Frequency i) (Frequency (j + 1)) name))))
+  is_outcome (Err (Pitch i)) e' line' (complete, (rate, ready, (frequencies, (j, f, name))), is, is') =
+      inr (rate, ready.0, inr (ready.1, inr (frequencies, inl (j, f, as_was (Pitch i) e' line' is is' ∙ ap refused (distinct_numbers.refusals (Pitch i) (Pitch (j + 1)) name)))))
+  is_outcome (Err (Codebook i)) e' line' (complete, (rate, ready, (frequencies, pitches, (j, f, name))), is, is') =
+      inr (rate, ready.0, inr (ready.1, inr (frequencies, inr (pitches, inl (j, f, as_was (Codebook i) e' line' is is' ∙ ap refused (distinct_numbers.refusals (Codebook i) (Codebook (j + 1)) name))))))
+  is_outcome (Err AllOnesDrawn) e' line' (complete, (rate, ready, (frequencies, pitches, codebooks, none)), is, is') =
+      inr (rate, ready.0, inr (ready.1, inr (frequencies, inr (pitches, inr (codebooks, inl (none, as_was AllOnesDrawn e' line' is is'))))))
+  is_outcome (Err (Faulty f)) e' line' (complete, (rate, ready, none), is, is') = absurd none
+  is_outcome (Err NoArrival) e' line' (complete, (rate, ready, none), is, is') = absurd none
+  is_outcome (Err ShortBuffer) e' line' (complete, (rate, ready, none), is, is') = absurd none
+  is_outcome (Err UnlawfulReel) e' line' (complete, (rate, ready, none), is, is') = absurd none
+
+  -- two answers of a send, with the sender and the line after them
+  pub send_once : (r r' : Result Sent Refusal) (d d' : Sender) (l l' : Line) → Sends e line n p r d l → Sends e line n p r' d' l' → (r ≡ r') × (d ≡ d') × (l ≡ l')
+  send_once r r' d d' l l' a b =
+      let same = outcome_once (r, d, l) (r', d', l') (is_outcome r d l a) (is_outcome r' d' l' b) in
+      (ap (λ (x : Outcome). x.0) same, ap (λ (x : Outcome). x.1) same, ap (λ (x : Outcome). x.2) same)
 
   -- ---- and there is one
 
   HasAnswer : Type 0
-  HasAnswer = (r : Result Sent Refusal) × (t : Link) × Sends s n p r t
+  HasAnswer = (r : Result Sent Refusal) × (e' : Sender) × (line' : Line) × Sends e line n p r e' line'
 
-  at_draws : AreComplete p → (rate : Rate) → (rate_is rate).number ≡ n → HasRoom s.line → FrequenciesAllowed p → PitchesAllowed rate p → CodebooksAllowed rate p → HasAnswer
+  at_draws : AreComplete p → (rate : Rate) → (rate_is rate).number ≡ n → HasRoom line → FrequenciesAllowed p → PitchesAllowed rate p → CodebooksAllowed rate p → HasAnswer
   unfolding HasAnswer
-  at_draws complete rate is room frequencies pitches codebooks = elim (codes_or_none rate p s.sender.memories s.sender.seed complete pitches codebooks) [
-    | inl (c, m, e, d) ↦
-        let f = sent_of m rate c (packet rate c) in
-        (Ok f, link_after_send p f s, (complete, record { ready = (is, room); frequencies = frequencies; codes = e; draws = d; bytes = refl }, refl))
-    | inr none ↦ (Err AllOnesDrawn, s, (complete, (rate, (is, room), frequencies, none), refl))
+  at_draws complete rate is room frequencies pitches codebooks = elim (codes_or_none rate p e.memories e.seed complete pitches codebooks) [
+    | inl (c, m, encodes, d) ↦
+        let f = sent_of m rate c (packet rate c) in (
+          Ok f,
+          sender_after p f e,
+          with_last (arrival_sent f) line,
+          (
+            complete,
+            record {
+              ready = (is, room);
+              coded = record { rate = refl; frequencies = frequencies; codes = encodes; draws = d; bytes = refl };
+              sender = refl;
+              line_after = refl;
+            },
+          ),
+        )
+    | inr none ↦ (Err AllOnesDrawn, e, line, (complete, (rate, (is, room), (frequencies, pitches, codebooks, none)), refl, refl))
   ]
 
-  at_codebooks : AreComplete p → (rate : Rate) → (rate_is rate).number ≡ n → HasRoom s.line → FrequenciesAllowed p → PitchesAllowed rate p → HasAnswer
+  at_codebooks : AreComplete p → (rate : Rate) → (rate_is rate).number ≡ n → HasRoom line → FrequenciesAllowed p → PitchesAllowed rate p → HasAnswer
   unfolding HasAnswer
   at_codebooks complete rate is room frequencies pitches = elim (all_or_fails (codebook_passes rate) (rate_is rate).codebook_subframes) [
     | inl codebooks ↦ at_draws complete rate is room frequencies pitches codebooks
-    | inr (i, f) ↦ (Err (Codebook (i + 1)), s, (complete, (rate, (is, room), frequencies, pitches, (i, f, refl)), refl))
+    | inr (i, f) ↦ (Err (Codebook (i + 1)), e, line, (complete, (rate, (is, room), (frequencies, pitches, (i, f, refl))), refl, refl))
   ]
 
-  at_pitches : AreComplete p → (rate : Rate) → (rate_is rate).number ≡ n → HasRoom s.line → FrequenciesAllowed p → HasAnswer
+  at_pitches : AreComplete p → (rate : Rate) → (rate_is rate).number ≡ n → HasRoom line → FrequenciesAllowed p → HasAnswer
   unfolding HasAnswer
   at_pitches complete rate is room frequencies = elim (all_or_fails pitch_passes (rate_is rate).pitch_subframes) [
     | inl pitches ↦ at_codebooks complete rate is room frequencies pitches
-    | inr (i, f) ↦ (Err (Pitch (i + 1)), s, (complete, (rate, (is, room), frequencies, (i, f, refl)), refl))
+    | inr (i, f) ↦ (Err (Pitch (i + 1)), e, line, (complete, (rate, (is, room), (frequencies, (i, f, refl))), refl, refl))
   ]
 
-  at_frequencies : AreComplete p → (rate : Rate) → (rate_is rate).number ≡ n → HasRoom s.line → HasAnswer
+  at_frequencies : AreComplete p → (rate : Rate) → (rate_is rate).number ≡ n → HasRoom line → HasAnswer
   unfolding HasAnswer
   at_frequencies complete rate is room = elim (all_or_fails frequency_passes 10) [
     | inl frequencies ↦ at_pitches complete rate is room frequencies
-    | inr (i, f) ↦ (Err (Frequency (i + 1)), s, (complete, ((rate, (is, room)), (i, f, refl)), refl))
+    | inr (i, f) ↦ (Err (Frequency (i + 1)), e, line, (complete, (rate, (is, room), (i, f, refl)), refl, refl))
   ]
 
-  pub send_some : AreComplete p → (r : Result Sent Refusal) × (t : Link) × Sends s n p r t
+  pub send_some : AreComplete p → (r : Result Sent Refusal) × (e' : Sender) × (line' : Line) × Sends e line n p r e' line'
   unfolding HasAnswer
   send_some complete = elim (rate_or_none n) [
-    | inr none ↦ (Err Codes, s, (complete, none, refl))
-    | inl (rate, is) ↦ elim (cases_lt (length s.line.waiting) s.line.places) [
-      | inr full ↦ (Err LineFull, s, (complete, ((rate, is), full), refl))
+    | inr none ↦ (Err Codes, e, line, (complete, none, refl, refl))
+    | inl (rate, is) ↦ elim (cases_lt (length line.waiting) line.places) [
+      | inr full ↦ (Err LineFull, e, line, (complete, ((rate, is), full), refl, refl))
       | inl room ↦ at_frequencies complete rate is room
     ]
   ]

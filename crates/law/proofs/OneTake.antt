@@ -5,7 +5,7 @@ use Rattle.lsp.specs.States.{frequencies}
 use Rattle.law.specs.Arrivals.{Arrival}
 use Rattle.law.specs.Readings.{Reading, Reads}
 use Rattle.law.specs.Ends.{Receiver, Taken, Takes, TakesOne, receiver_after}
-use Rattle.law.specs.Links.{Line, Link, Supply, TakesFromSupply, another, line_left, link_after_take, supply_left, this_line, to_come, to_come_from}
+use Rattle.law.specs.Links.{Line, Link, Supply, TakesFromSupply, other_supply, line_left, link_after_take, supply_left, this_line, to_come, to_come_from}
 use Rattle.law.proofs.OneReading.{one_way, some_way}
 
 -- ---- one arrival
@@ -65,23 +65,23 @@ takes_once : (e : Receiver) (supply : List Arrival) (x x' : Option Taken) (d d' 
 takes_once e supply (Some x) (Some x') d d' rest rest' p q =
     let same = take_once e supply x x' d d' rest rest' p q in
     record { answer = ap Some same.answer; receiver = same.receiver; supply = same.supply }
-takes_once e supply (Some x) None d d' rest rest' p (none, q, kept) = absurd (some_not_none supply x.arrival rest p.first none)
-takes_once e supply None (Some x') d d' rest rest' (none, p, kept) q = absurd (some_not_none supply x'.arrival rest' q.first none)
-takes_once e supply None None d d' rest rest' (none, empty, kept) (none', empty', kept') =
+takes_once e supply (Some x) None d d' rest rest' p ((none, q), kept) = absurd (some_not_none supply x.arrival rest p.first none)
+takes_once e supply None (Some x') d d' rest rest' ((none, p), kept) q = absurd (some_not_none supply x'.arrival rest' q.first none)
+takes_once e supply None None d d' rest rest' ((none, empty), kept) ((none', empty'), kept') =
     record { answer = refl; receiver = kept ∙ sym kept'; supply = empty ∙ sym empty' }
 
 -- ---- of a link
 
 left_to_come : (u : Supply) (line : Line) (rest : List Arrival) → to_come_from (supply_left u rest) (line_left u rest line) ≡ rest
 left_to_come this_line line rest = refl
-left_to_come (another list) line rest = refl
+left_to_come (other_supply list) line rest = refl
 
 -- what is left to come is what is left of the supply
 pub to_come_after : (e : Receiver) (rest : List Arrival) (s : Link) → to_come (link_after_take e rest s) ≡ rest
 to_come_after e rest s = left_to_come s.supply s.line rest
 
 link_some : (s : Link) (supply : List Arrival) → to_come s ≡ supply → (x : Option Taken) × (d : Receiver) × (rest : List Arrival) × Takes s.receiver supply x d rest
-link_some s [] e = (None, s.receiver, [], (refl, refl, refl))
+link_some s [] e = (None, s.receiver, [], ((refl, refl), refl))
 link_some s (a ∷ rest) e = let (x, d, p) = take_some s.receiver a rest in (Some x, d, rest, p)
 
 -- the link after a take of its receiver

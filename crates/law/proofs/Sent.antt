@@ -20,8 +20,8 @@ use Rattle.packet.proofs.Packets.{each_bit}
 use Rattle.packet.proofs.Trips.{unpacking_returns}
 use Rattle.figures.proofs.Frames.{encoded_codes_fit}
 use Rattle.law.specs.Arrivals.{are_bytes, is_lawful}
-use Rattle.law.specs.Sending.{Draws, Encodes, Parameters, cbseed_of, drawn}
-use Rattle.law.specs.Links.{Accepts, Link, Sent, arrival_sent}
+use Rattle.law.specs.Sending.{CodesFrame, Draws, Encodes, Parameters, Sent, arrival_sent, cbseed_of, drawn}
+use Rattle.law.specs.Ends.{Sender}
 use Rattle.law.proofs.Steps.{lsp_bits, top_is}
 
 -- ten values are ten
@@ -68,8 +68,11 @@ codes_within rate p m c e seed =
       cbseed = seed;
     }
 
-pub sent_within : (s : Link) (n : ℕ) (p : Parameters) (f : Sent) → Accepts s n p f → Within f.rate f.codes
-sent_within s n p f a = codes_within f.rate p s.sender.memories f.codes a.codes (cbseed_fits f.rate f.codes s.sender.seed f.draws a.draws)
+pub sent_within : (q : Rate) (p : Parameters) (e : Sender) (f : Sent) → CodesFrame q p e f → Within f.rate f.codes
+sent_within q p e f a = subst (λ r. Within r f.codes) (sym a.rate) (codes_within q p e.memories f.codes a.codes (cbseed_fits q f.codes e.seed f.draws a.draws))
+
+pub sent_bytes : (q : Rate) (p : Parameters) (e : Sender) (f : Sent) → CodesFrame q p e f → f.bytes ≡ packet f.rate f.codes
+sent_bytes q p e f a = a.bytes ∙ ap (λ r. packet r f.codes) (sym a.rate)
 
 -- ---- its packet
 
@@ -95,6 +98,7 @@ packet_lawful rate c within =
     let l = (unpacking_returns rate c within).lawful in
     lawful_of (category_of (rate_is rate).number) (packet rate c) (l.length ∙ sym (category_bytes rate)) l.spare (are_bytes_of (packet rate c) (each_bit rate c).bytes)
 
-pub sent_lawful : (s : Link) (n : ℕ) (p : Parameters) (f : Sent) → Accepts s n p f → is_lawful (arrival_sent f) ≡ true
-sent_lawful s n p f a =
-    subst (λ b. is_lawful (record { category = category_of (rate_is f.rate).number; bytes = b }) ≡ true) (sym a.bytes) (packet_lawful f.rate f.codes (sent_within s n p f a))
+pub sent_lawful : (q : Rate) (p : Parameters) (e : Sender) (f : Sent) → CodesFrame q p e f → is_lawful (arrival_sent f) ≡ true
+sent_lawful q p e f a =
+    subst (λ b. is_lawful (record { category = category_of (rate_is f.rate).number; bytes = b }) ≡ true) (sym (sent_bytes q p e f a))
+    (packet_lawful f.rate f.codes (sent_within q p e f a))

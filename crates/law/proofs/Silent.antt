@@ -16,7 +16,7 @@ use Rattle.figures.specs.declared.codebook.CodebookFigure.{CodebookFigure}
 use Rattle.figures.specs.Codebook.{DecodesCodebooks, figure_of_codes}
 use Rattle.figures.specs.Pitch.{DecodesPitches, pitch_of}
 use Rattle.law.specs.GuardedBits.{corrected_packet, with_bit_changed}
-use Rattle.law.specs.Readings.{Reading, Reads, ReadsCodes, codebook_codes, no_pitch, pitch_codes, pitch_off}
+use Rattle.law.specs.Readings.{Reading, Reads, ReadsCodes, codebook_codes_in, no_pitch, pitch_codes_in, pitch_off}
 use Rattle.law.proofs.Corrected.{both_changed_corrects_none, both_changed_syndrome, one_changed_corrects, one_changed_holds, pcb0_changed_holds, pcb0_changed_syndrome, sent_holds, sent_syndrome}
 use Rattle.law.proofs.Sent.{lsp_fits}
 
@@ -48,7 +48,7 @@ silent_figure = Some (figure_of_codes Rate1 0 0)
 abbrev pub silent_reading : List ℕ → Reading
 silent_reading lsp = record { rate = Rate1; codes = silent lsp; pitches = pitch_off; codebooks = replicate 8 silent_figure }
 
-codebooks_read : (lsp : List ℕ) → DecodesCodebooks Rate1 (codebook_codes (silent lsp)) (replicate 8 silent_figure)
+codebooks_read : (lsp : List ℕ) → DecodesCodebooks Rate1 (codebook_codes_in (silent lsp)) (replicate 8 silent_figure)
 codebooks_read lsp = record {
   cbindex_length = refl;
   cbgain_length = refl;
@@ -61,7 +61,7 @@ none_of_zeros : pitch_of 0 0 ≡ no_pitch
 unfolding pitch_of
 none_of_zeros = refl
 
-pitches_read : (lsp : List ℕ) → DecodesPitches Rate1 (pitch_codes (silent lsp)) pitch_off
+pitches_read : (lsp : List ℕ) → DecodesPitches Rate1 (pitch_codes_in (silent lsp)) pitch_off
 pitches_read lsp = record {
   plag_length = refl;
   pgain_length = refl;

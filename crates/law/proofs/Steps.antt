@@ -17,9 +17,10 @@ use Rattle.std.proofs.lemmas.Bool.{cond-true}
 use Rattle.std.proofs.lemmas.Bool.Decides.{nat_tests}
 use Rattle.packet.specs.declared.codes.CodeNumbers.{CodeNumbers}
 use Rattle.packet.specs.Codes.{Within}
-use Rattle.law.specs.Readings.{Reading, Reads, event_of, packet_read}
-use Rattle.law.specs.Links.{Link, Blanks}
-use Rattle.law.specs.Runs.{Call, Send, Blank, Disturb, Take, RestartSender, RestartReceiver, Step, Side, the_sender, the_receiver, events_of_part}
+use Rattle.law.specs.Ends.{Sender}
+use Rattle.law.specs.Readings.{Reading, Reads, event_read, packet_read}
+use Rattle.law.specs.Links.{Blanks, Line, Link}
+use Rattle.law.specs.Runs.{Call, Send, Blank, Disturb, Take, RestartSender, RestartReceiver, Step, LinkEnd, the_sender, the_receiver, events_of_role}
 
 none_some : {A : Type 0} {x : A} → Some x ≡ None → ⊥
 none_some e = cc
@@ -57,7 +58,7 @@ lawful_packet : (category : Category) (bytes : List ℕ) (l : Letter) (x : Optio
 lawful_packet category bytes l (Some r) h = (lsp_within r.rate r.codes (read_within category bytes l r h), tt)
 lawful_packet category bytes l None h = tt
 
-lawful_reading : (category : Category) (bytes : List ℕ) (l : Letter) (x : Option Reading) → Reads category bytes l x → Lawful (event_of l x ∷ [])
+lawful_reading : (category : Category) (bytes : List ℕ) (l : Letter) (x : Option Reading) → Reads category bytes l x → Lawful (event_read l x ∷ [])
 lawful_reading category bytes C x h = lawful_packet category bytes C x h
 lawful_reading category bytes P x h = lawful_packet category bytes P x h
 lawful_reading category bytes S x h = lawful_packet category bytes S x h
@@ -66,48 +67,44 @@ lawful_reading category bytes B x h = tt
 lawful_reading category bytes E x h = tt
 
 -- a step moves an end's memories by what it is to the end, and that is lawful
-pub record Moves {A : Type 0} (side : Side A) (s : Link) (c : Call) (t : Link) : Type 0 where
-  pub moved : side.memories t ≡ after (side.memories s) (events_of_part side.event (side.part c))
-  pub lawful : Lawful (events_of_part side.event (side.part c))
+pub record Moves {A : Type 0} (side : LinkEnd A) (s : Link) (c : Call) (t : Link) : Type 0 where
+  pub moved : side.memories t ≡ after (side.memories s) (events_of_role side.event (side.role c))
+  pub lawful : Lawful (events_of_role side.event (side.role c))
 
 -- a blank that is refused alters nothing
-pub blank_refused : (s t : Link) (e : Refusal) → Blanks s (Err e) t → t ≡ s
-blank_refused s t LineFull h = h.1
-blank_refused s t (Faulty f) h = absurd h
-blank_refused s t (Frequency i) h = absurd h
-blank_refused s t (Pitch i) h = absurd h
-blank_refused s t (Codebook i) h = absurd h
-blank_refused s t AllOnesDrawn h = absurd h
-blank_refused s t NoArrival h = absurd h
-blank_refused s t ShortBuffer h = absurd h
-blank_refused s t Codes h = absurd h
-blank_refused s t UnlawfulReel h = absurd h
+pub blank_refused : (e e' : Sender) (line line' : Line) (r : Refusal) → Blanks e line (Err r) e' line' → (e' ≡ e) × (line' ≡ line)
+blank_refused e e' line line' LineFull h = (h.1, h.2)
+blank_refused e e' line line' (Faulty f) h = absurd h
+blank_refused e e' line line' (Frequency i) h = absurd h
+blank_refused e e' line line' (Pitch i) h = absurd h
+blank_refused e e' line line' (Codebook i) h = absurd h
+blank_refused e e' line line' AllOnesDrawn h = absurd h
+blank_refused e e' line line' NoArrival h = absurd h
+blank_refused e e' line line' ShortBuffer h = absurd h
+blank_refused e e' line line' Codes h = absurd h
+blank_refused e e' line line' UnlawfulReel h = absurd h
 
 pub sender_moves : (s t : Link) (c : Call) → Step s c t → Moves the_sender s c t
 sender_moves s t (Send n p (Ok f)) h = record {
-  moved = ap (λ l. l.sender.memories) h.2;
-  lawful = (quantized_within f.rate _ f.codes.lsp h.1.codes.lsp, tt);
+  moved = ap (λ e. e.memories) h.0.1.sender;
+  lawful = (quantized_within f.rate _ f.codes.lsp h.0.1.coded.codes.lsp, tt);
 }
-sender_moves s t (Send n p (Err e)) h = record { moved = ap (λ l. l.sender.memories) h.2; lawful = tt }
-sender_moves s t (Blank (Ok u)) h = record { moved = ap (λ l. l.sender.memories) h.1; lawful = tt }
-sender_moves s t (Blank (Err e)) h = record { moved = ap (λ l. l.sender.memories) (blank_refused s t e h); lawful = tt }
-sender_moves s t (Disturb n c bytes (Ok u)) h = record { moved = ap (λ l. l.sender.memories) h.2; lawful = tt }
-sender_moves s t (Disturb n c bytes (Err e)) h = record { moved = ap (λ l. l.sender.memories) h.2; lawful = tt }
+sender_moves s t (Send n p (Err r)) h = record { moved = ap (λ e. e.memories) h.0.2; lawful = tt }
+sender_moves s t (Blank (Ok u)) h = record { moved = ap (λ e. e.memories) h.0.1; lawful = tt }
+sender_moves s t (Blank (Err r)) h = record { moved = ap (λ e. e.memories) (blank_refused s.sender t.sender s.line t.line r h.0).0; lawful = tt }
+sender_moves s t (Disturb n c bytes r) h = record { moved = ap (λ l. l.sender.memories) h.1; lawful = tt }
 sender_moves s t (Take x) h = record { moved = ap (λ l. l.sender.memories) h.1; lawful = tt }
 sender_moves s t RestartSender h = record { moved = ap (λ l. l.sender.memories) h; lawful = tt }
 sender_moves s t RestartReceiver h = record { moved = ap (λ l. l.sender.memories) h; lawful = tt }
 
 pub receiver_moves : (s t : Link) (c : Call) → Step s c t → Moves the_receiver s c t
-receiver_moves s t (Send n p (Ok f)) h = record { moved = ap (λ l. l.receiver.memories) h.2; lawful = tt }
-receiver_moves s t (Send n p (Err e)) h = record { moved = ap (λ l. l.receiver.memories) h.2; lawful = tt }
-receiver_moves s t (Blank (Ok u)) h = record { moved = ap (λ l. l.receiver.memories) h.1; lawful = tt }
-receiver_moves s t (Blank (Err e)) h = record { moved = ap (λ l. l.receiver.memories) (blank_refused s t e h); lawful = tt }
-receiver_moves s t (Disturb n c bytes (Ok u)) h = record { moved = ap (λ l. l.receiver.memories) h.2; lawful = tt }
-receiver_moves s t (Disturb n c bytes (Err e)) h = record { moved = ap (λ l. l.receiver.memories) h.2; lawful = tt }
+receiver_moves s t (Send n p r) h = record { moved = ap (λ l. l.receiver.memories) h.1; lawful = tt }
+receiver_moves s t (Blank r) h = record { moved = ap (λ l. l.receiver.memories) h.1; lawful = tt }
+receiver_moves s t (Disturb n c bytes r) h = record { moved = ap (λ l. l.receiver.memories) h.1; lawful = tt }
 receiver_moves s t (Take (Some x)) h = record {
   moved = ap (λ r. r.memories) h.0.receiver;
   lawful = lawful_reading x.arrival.category x.arrival.bytes x.letter x.reading h.0.read;
 }
-receiver_moves s t (Take None) h = record { moved = ap (λ r. r.memories) h.0.2; lawful = tt }
+receiver_moves s t (Take None) h = record { moved = ap (λ r. r.memories) h.0.1; lawful = tt }
 receiver_moves s t RestartSender h = record { moved = ap (λ l. l.receiver.memories) h; lawful = tt }
 receiver_moves s t RestartReceiver h = record { moved = ap (λ l. l.receiver.memories) h; lawful = tt }

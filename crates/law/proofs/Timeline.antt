@@ -5,7 +5,7 @@ use Rattle.lsp.specs.States.{InRange, fresh}
 use Rattle.lsp.proofs.Runs.{after-++, rounding, stays_in_range}
 use Rattle.lsp.proofs.Ranges.{fresh_in}
 use Rattle.law.specs.Links.{Link}
-use Rattle.law.specs.Runs.{Call, Frame, Moment, Part, frame, restarts, nothing, Run, Side, Step, events_of_part, frame_of_part, frames, now, past, restarts_in, restarts_of_part}
+use Rattle.law.specs.Runs.{Call, Frame, CallMade, Role, frame, restarts, nothing, Run, LinkEnd, Step, events_of_role, frame_of_role, frames_at, now, events_at, restarts_at, restarts_of_role}
 use Rattle.law.specs.Law.{Rounded, numbered}
 use Rattle.law.proofs.Numbers.{append_nil, new_number, number_in, number_push, old_number, push_length}
 use Rattle.law.proofs.Steps.{Moves}
@@ -84,9 +84,9 @@ module _ {A : Type 0} (event : A → Event) (fs : List (Frame A)) (m m' : List �
             subst (Since (span event (fs ++ (x ∷ [])) n j)) mem (to_new a moved n j f k h.0 (era ∙ ap (λ g. g.era) h.1))
       ]
 
-  spans_more : (p : Part A) → m' ≡ after m (events_of_part event p) → Spans event (fs ++ frame_of_part p m' e) m' (restarts_of_part p + e)
+  spans_more : (p : Role A) → m' ≡ after m (events_of_role event p) → Spans event (fs ++ frame_of_role p m' e) m' (restarts_of_role p + e)
   spans_more (frame a) moved =
-      subst (Spans event (fs ++ frame_of_part (frame a) m' e) m') (sym (zero-add e))
+      subst (Spans event (fs ++ frame_of_role (frame a) m' e) m') (sym (zero-add e))
       (record { to_now = λ n j f k l era. to_new a moved n j f k (l ∙ push_length fs _) era; between = between_more a moved })
   spans_more restarts moved =
       subst (λ l. Spans event l m' (1 + e)) (sym (append_nil fs)) (record {
@@ -97,28 +97,28 @@ module _ {A : Type 0} (event : A → Event) (fs : List (Frame A)) (m m' : List �
       subst (Spans event (fs ++ []) m') (sym (zero-add e))
       (subst (λ l. Spans event l m' e) (sym (append_nil fs)) (subst (λ l. Spans event fs l e) (sym moved) spans))
 
-module _ {A : Type 0} (side : Side A) (moves : (s t : Link) (c : Call) → Step s c t → Moves side s c t) (s : Link) (new : side.memories s ≡ fresh) where
-  pub lawful_past : (h : List Moment) → Run s h → Lawful (past side h)
+module _ {A : Type 0} (side : LinkEnd A) (moves : (s t : Link) (c : Call) → Step s c t → Moves side s c t) (s : Link) (new : side.memories s ≡ fresh) where
+  pub lawful_past : (h : List CallMade) → Run s h → Lawful (events_at side h)
   lawful_past [] r = tt
   lawful_past (m ∷ h) r =
-      lawful-++ (events_of_part side.event (side.part m.call)) (past side h) (moves (now s h) m.link m.call r.0).lawful (lawful_past h r.1)
+      lawful-++ (events_of_role side.event (side.role m.call)) (events_at side h) (moves (now s h) m.link m.call r.0).lawful (lawful_past h r.1)
 
   -- the memories are those after all that happened
-  pub held : (h : List Moment) → Run s h → side.memories (now s h) ≡ after fresh (past side h)
+  pub held : (h : List CallMade) → Run s h → side.memories (now s h) ≡ after fresh (events_at side h)
   held [] r = new
   held (m ∷ h) r =
-      let x = events_of_part side.event (side.part m.call) in
-      (moves (now s h) m.link m.call r.0).moved ∙ ap (λ k. after k x) (held h r.1) ∙ sym (after-++ fresh x (past side h))
+      let x = events_of_role side.event (side.role m.call) in
+      (moves (now s h) m.link m.call r.0).moved ∙ ap (λ k. after k x) (held h r.1) ∙ sym (after-++ fresh x (events_at side h))
 
-  pub in_range : (h : List Moment) → Run s h → InRange (side.memories (now s h))
-  in_range h r = subst InRange (sym (held h r)) (stays_in_range fresh fresh_in (past side h) (lawful_past h r))
+  pub in_range : (h : List CallMade) → Run s h → InRange (side.memories (now s h))
+  in_range h r = subst InRange (sym (held h r)) (stays_in_range fresh fresh_in (events_at side h) (lawful_past h r))
 
-  pub rounded : (h : List Moment) → Run s h → Rounded (past side h) (side.memories (now s h))
-  rounded h r = subst (Rounded (past side h)) (sym (held h r)) (rounding (past side h))
+  pub rounded : (h : List CallMade) → Run s h → Rounded (events_at side h) (side.memories (now s h))
+  rounded h r = subst (Rounded (events_at side h)) (sym (held h r)) (rounding (events_at side h))
 
   -- no frame is of a later era than the end is in
-  frame_era : (p : Part A) (fs : List (Frame A)) (m : List ℤ) (e : ℕ) → ((n : ℕ) (f : Frame A) → numbered fs n ≡ Some f → f.era ≤ e)
-      → (n : ℕ) (f : Frame A) → numbered (fs ++ frame_of_part p m e) n ≡ Some f → f.era ≤ restarts_of_part p + e
+  frame_era : (p : Role A) (fs : List (Frame A)) (m : List ℤ) (e : ℕ) → ((n : ℕ) (f : Frame A) → numbered fs n ≡ Some f → f.era ≤ e)
+      → (n : ℕ) (f : Frame A) → numbered (fs ++ frame_of_role p m e) n ≡ Some f → f.era ≤ restarts_of_role p + e
   frame_era (frame a) fs m e old n f k = elim (number_push fs _ n f k) [
     | inl h ↦ omega (arith, old n f h.1)
     | inr h ↦ omega (arith, ap (λ g. g.era) h.1)
@@ -126,10 +126,10 @@ module _ {A : Type 0} (side : Side A) (moves : (s t : Link) (c : Call) → Step 
   frame_era restarts fs m e old n f k = omega (arith, old n f (subst (λ l. numbered l n ≡ Some f) (append_nil fs) k))
   frame_era nothing fs m e old n f k = omega (arith, old n f (subst (λ l. numbered l n ≡ Some f) (append_nil fs) k))
 
-  pub era_most : (h : List Moment) (n : ℕ) (f : Frame A) → numbered (frames side h) n ≡ Some f → f.era ≤ restarts_in side h
+  pub era_most : (h : List CallMade) (n : ℕ) (f : Frame A) → numbered (frames_at side h) n ≡ Some f → f.era ≤ restarts_at side h
   era_most [] zero f k = absurd cc
   era_most [] (suc n) f k = absurd cc
-  era_most (m ∷ h) n f k = frame_era (side.part m.call) (frames side h) (side.memories m.link) (restarts_in side h) (era_most h) n f k
+  era_most (m ∷ h) n f k = frame_era (side.role m.call) (frames_at side h) (side.memories m.link) (restarts_at side h) (era_most h) n f k
 
   spans_none : Spans side.event [] (side.memories s) 0
   spans_none = record {
@@ -137,8 +137,8 @@ module _ {A : Type 0} (side : Side A) (moves : (s t : Link) (c : Call) → Step 
     between = λ n j f f' k. absurd (omega (arith, number_in [] n f k));
   }
 
-  pub spans : (h : List Moment) → Run s h → Spans side.event (frames side h) (side.memories (now s h)) (restarts_in side h)
+  pub spans : (h : List CallMade) → Run s h → Spans side.event (frames_at side h) (side.memories (now s h)) (restarts_at side h)
   spans [] r = spans_none
   spans (m ∷ h) r =
-      spans_more side.event (frames side h) (side.memories (now s h)) (side.memories m.link) (restarts_in side h) (past side h)
-      (lawful_past h r.1) (held h r.1) (era_most h) (spans h r.1) (side.part m.call) (moves (now s h) m.link m.call r.0).moved
+      spans_more side.event (frames_at side h) (side.memories (now s h)) (side.memories m.link) (restarts_at side h) (events_at side h)
+      (lawful_past h r.1) (held h r.1) (era_most h) (spans h r.1) (side.role m.call) (moves (now s h) m.link m.call r.0).moved

@@ -1,56 +1,64 @@
 -- That the law speaks of something: a run in which all that it names occurs. Assumes nothing.
-use Rattle.std.specs.Prelude.{◌≡◌, ◌≢◌, ℕ, List, pos, None, Option, MatchOption, slice_index_or}
+use Rattle.std.specs.Prelude.{◌≡◌, ℕ, ◌<◌, List, ◌-ℤ◌, pos, None, Option, MatchOption, slice_index_or, unsigned_abs}
 use Rattle.service.specs.declared.categories.Category.TheVariants.{Suspect}
 use Rattle.service.specs.declared.readings.Letter.{Letter}
-use Rattle.service.specs.declared.readings.Letter.TheVariants.{B, P, S, D}
+use Rattle.service.specs.declared.readings.Letter.TheVariants.{B, C, P, S, D}
 use Rattle.law.specs.GuardedBits.{changed_besides_pcb0, changed_guarded}
 use Rattle.law.specs.Ends.{Taken}
-use Rattle.law.specs.Links.{Link, Sent}
-use Rattle.law.specs.Runs.{Frame, Moment, New, Run}
-use Rattle.law.specs.Law.{FewChanges, InARow, IsSent, IsTaken}
+use Rattle.law.specs.Sending.{Sent}
+use Rattle.law.specs.Links.{Link}
+use Rattle.law.specs.Runs.{CallMade, Frame, New, Run}
+use Rattle.law.specs.Law.{AtMostFourChanged, InARow, IsSent, IsTaken}
+use Rattle.law.specs.Keeping.{StartsEmpty}
 
 -- frame n is a packet at Rate 1 that was taken as suspect, with this letter, after so many of the 29 guarded bits changed on the
 -- way, and so many besides PCB[0]
-pub record TakenAsSuspect (h : List Moment) (n : ℕ) (l : Letter) (changed besides_pcb0 : ℕ) : Type 0 where
+pub record TakenAsSuspect (h : List CallMade) (n : ℕ) (l : Letter) (changed besides_pcb0 : ℕ) : Type 0 where
   pub sent : Sent
   pub taken : Taken
-  pub few : FewChanges h n sent taken
+  pub few : AtMostFourChanged h n sent taken
   pub category : taken.arrival.category ≡ Suspect
   pub letter : taken.letter ≡ l
   pub guarded : changed_guarded sent.bytes taken.arrival.bytes ≡ changed
   pub besides : changed_besides_pcb0 sent.bytes taken.arrival.bytes ≡ besides_pcb0
 
 -- and it was read with the codes that were sent
-pub record ReadAsSuspect (h : List Moment) (n : ℕ) (l : Letter) (changed besides_pcb0 : ℕ) : Type 0 where
+pub record ReadAsSuspect (h : List CallMade) (n : ℕ) (l : Letter) (changed besides_pcb0 : ℕ) : Type 0 where
   pub as_suspect : TakenAsSuspect h n l changed besides_pcb0
   pub codes : MatchOption as_suspect.taken.reading ⊥ (λ r. r.codes ≡ as_suspect.sent.codes)
 
 -- frame n is a blank, taken as a blank
-pub record TakenAsBlank (h : List Moment) (n : ℕ) : Type 0 where
+pub record TakenAsBlank (h : List CallMade) (n : ℕ) : Type 0 where
   pub sent : Frame (Option Sent)
   pub taken : Frame Taken
   pub is_sent : IsSent h n sent
   pub is_taken : IsTaken h n taken
   pub blank : (sent.what ≡ None) × (taken.what.letter ≡ B)
 
--- right after frame n was sent and arrival n taken, the ends' memories of some LSP differ
-pub record MemoriesDiffer (h : List Moment) (n : ℕ) : Type 0 where
+-- frame n is in these eras of the ends, and right after it was sent, and taken with letter C, the memories of some LSP are more
+-- than ten grains apart
+pub record MemoriesApart (h : List CallMade) (n sender_era receiver_era : ℕ) : Type 0 where
   pub sent : Frame (Option Sent)
   pub taken : Frame Taken
   pub is_sent : IsSent h n sent
   pub is_taken : IsTaken h n taken
+  pub letter : taken.what.letter ≡ C
+  pub eras : (sent.era ≡ sender_era) × (taken.era ≡ receiver_era)
   pub lsp : ℕ
-  pub differ : slice_index_or sent.memories lsp (pos 0) ≢ slice_index_or taken.memories lsp (pos 0)
+  pub apart : 10 < unsigned_abs (slice_index_or sent.memories lsp (pos 0) -ℤ slice_index_or taken.memories lsp (pos 0))
 
--- A run from a new link: the receiver is restarted after frame 1, so that the memories differ; frames 2 to 258 are 256 packets
--- in a row and a blank, one of which is corrected (S) and one read with a wrong PCB[0] (P); two changes erase frame 259 (D).
-pub record ARun : Type 0 where
+-- A run of a new link that takes from its own line, on which nothing waits. Frame 1 is taken, and the receiver is restarted, so
+-- that the memories are apart at frame 2. Frames 2 to 258 are 256 packets in a row, and frame 3, a blank. Frame 4 is a packet
+-- of these of which one of the 28 bits is changed on the line and corrected, and frame 5 one whose PCB[0] is changed. Frame
+-- 259 has two wrong bits, and is erased.
+pub record ExampleRun : Type 0 where
   pub start : Link
-  pub history : List Moment
+  pub history : List CallMade
+  pub empty : StartsEmpty start
   pub new : New start
   pub run : Run start history
   pub row : InARow history 2 256
-  pub differ : MemoriesDiffer history 2
+  pub apart : MemoriesApart history 2 0 1
   pub blank : TakenAsBlank history 3
   pub corrected : ReadAsSuspect history 4 S 1 1
   pub pcb0_wrong : ReadAsSuspect history 5 P 1 0

@@ -24,12 +24,13 @@ changed_guarded sent arrived = differing_bits guarded_bits sent arrived
 abbrev pub changed_besides_pcb0 : List ℕ → List ℕ → ℕ
 changed_besides_pcb0 sent arrived = differing_bits (take 28 guarded_bits) sent arrived
 
--- the packet with the bit of this number changed: bit 7 - k % 8 of byte k / 8, if k is the place of the bit
-abbrev pub change_at : ℕ → List ℕ → List ℕ
-change_at k packet = slice_set packet (k / 8) (bit_xor (slice_index packet (k / 8)) (2 ^ (7 - k % 8)))
+-- the packet with the bit at place k changed, counted from the top bit of byte 0: bit 7 - k % 8 of byte k / 8
+abbrev pub with_place_changed : ℕ → List ℕ → List ℕ
+with_place_changed k packet = slice_set packet (k / 8) (bit_xor (slice_index packet (k / 8)) (2 ^ (7 - k % 8)))
 
+-- the packet with the bit of this number changed
 unfoldable pub with_bit_changed : ℕ → List ℕ → List ℕ
-with_bit_changed n packet = change_at (place Full n) packet
+with_bit_changed n packet = with_place_changed (place Full n) packet
 
 -- the number of the packet bit that is x^p of the 28 bits of the cyclic code: the guarded bits are listed from x^27 down
 abbrev pub bit_of_power : ℕ → ℕ

@@ -8,25 +8,27 @@ use Rattle.lsp.specs.Histories.{Event}
 use Rattle.lsp.specs.Laws.{Agree, WithinRounding}
 use Rattle.law.specs.GuardedBits.{SameGuardedCodeBits, changed_besides_pcb0, changed_guarded}
 use Rattle.law.specs.Ends.{Taken}
-use Rattle.law.specs.Links.{Link, Sent}
-use Rattle.law.specs.Runs.{Call, Frame, Moment, New, Run, Step, arrivals_taken, frames_sent, now, past, the_receiver, the_sender}
+use Rattle.law.specs.Sending.{Sent}
+use Rattle.law.specs.Links.{Link}
+use Rattle.law.specs.Runs.{Call, CallMade, Frame, New, Run, Step, arrivals_taken, events_at, frames_sent, now, the_receiver, the_sender}
 
 -- the frame of a number, counted from 1
 abbrev pub numbered : {A : Type 0} → List (Frame A) → ℕ → Option (Frame A)
 numbered fs zero = None
 numbered fs (suc n) = slice_get fs n
 
--- frame n sent, and arrival n taken
-abbrev pub IsSent : List Moment → ℕ → Frame (Option Sent) → Type 0
+-- f is frame n sent; the frames are numbered over the whole run, restarts or not
+abbrev pub IsSent : List CallMade → ℕ → Frame (Option Sent) → Type 0
 IsSent h n f = numbered (frames_sent h) n ≡ Some f
 
-abbrev pub IsTaken : List Moment → ℕ → Frame Taken → Type 0
+-- g is arrival n taken, which stands for frame n sent
+abbrev pub IsTaken : List CallMade → ℕ → Frame Taken → Type 0
 IsTaken h n g = numbered (arrivals_taken h) n ≡ Some g
 
 -- ---- (a) guarded bits
 
 -- frame n was the packet f at Rate 1; arrival n was x, in category 4 or 5; and at most four of the 29 guarded bits changed
-pub record FewChanges (h : List Moment) (n : ℕ) (f : Sent) (x : Taken) : Type 0 where
+pub record AtMostFourChanged (h : List CallMade) (n : ℕ) (f : Sent) (x : Taken) : Type 0 where
   pub frame : (g : Frame (Option Sent)) × IsSent h n g × (g.what ≡ Some f)
   pub arrival : (g : Frame Taken) × IsTaken h n g × (g.what ≡ x)
   pub rate : f.rate ≡ Rate1
@@ -49,61 +51,62 @@ Rounded events m = (i : ℕ) → i < 10 → WithinRounding i events (slice_index
 
 -- ---- (c) agreement
 
--- a packet that was read at its rate and with its LSP codes, or a blank taken as a blank
-abbrev pub ReadAsSent : Option Sent → Taken → Type 0
-ReadAsSent (Some f) x = (is_read x.letter ≡ true) × MatchOption x.reading ⊥ (λ r. (r.rate ≡ f.rate) × (r.codes.lsp ≡ f.codes.lsp))
-ReadAsSent None x = x.letter ≡ B
+-- a packet is taken as sent if it is read at its rate and with its LSP codes, and a blank if it is taken as a blank
+abbrev pub TakenAsSent : Option Sent → Taken → Type 0
+TakenAsSent (Some f) x = (is_read x.letter ≡ true) × MatchOption x.reading ⊥ (λ r. (r.rate ≡ f.rate) × (r.codes.lsp ≡ f.codes.lsp))
+TakenAsSent None x = x.letter ≡ B
 
--- frame n was sent, arrival n was taken, and it is so of these
-pub record IsReadAsSent (h : List Moment) (n : ℕ) : Type 0 where
+-- frame n was sent, arrival n was taken, and the frame is taken as sent
+pub record FrameTakenAsSent (h : List CallMade) (n : ℕ) : Type 0 where
   pub sent : Frame (Option Sent)
   pub taken : Frame Taken
   pub is_sent : IsSent h n sent
   pub is_taken : IsTaken h n taken
-  pub same : ReadAsSent sent.what taken.what
+  pub same : TakenAsSent sent.what taken.what
 
 -- a packet counts, a blank does not
 abbrev pub one_if_packet : Option Sent → ℕ
 one_if_packet None = 0
 one_if_packet (Some f) = 1
 
-abbrev pub packets_in : Option (Frame (Option Sent)) → ℕ
-packets_in None = 0
-packets_in (Some f) = one_if_packet f.what
+-- the same of the frame of a number, if there is one
+abbrev pub one_if_packet_frame : Option (Frame (Option Sent)) → ℕ
+one_if_packet_frame None = 0
+one_if_packet_frame (Some f) = one_if_packet f.what
 
--- how many packets there are among so many frames from number n on
-abbrev pub packets : List (Frame (Option Sent)) → ℕ → ℕ → ℕ
-packets fs n zero = 0
-packets fs n (suc i) = packets fs n i + packets_in (numbered fs (n + i))
+-- how many packets there are among i frames, those from number n on
+abbrev pub packet_count : List (Frame (Option Sent)) → ℕ → ℕ → ℕ
+packet_count fs n zero = 0
+packet_count fs n (suc i) = packet_count fs n i + one_if_packet_frame (numbered fs (n + i))
 
--- 256 packets in a row: they are all packets among the frames of number n to n + j, each frame is read as sent, and neither end
--- was restarted between its own first and last of these
-pub record InARow (h : List Moment) (n j : ℕ) : Type 0 where
-  pub read_as_sent : (i : ℕ) → i ≤ j → IsReadAsSent h (n + i)
-  pub many : packets (frames_sent h) n (suc j) ≡ 256
+-- 256 packets in a row: the packets among the frames of number n to n + j, all of which are taken as sent; and neither end was
+-- restarted between its own first and last of these
+pub record InARow (h : List CallMade) (n j : ℕ) : Type 0 where
+  pub taken_as_sent : (i : ℕ) → i ≤ j → FrameTakenAsSent h (n + i)
+  pub many : packet_count (frames_sent h) n (suc j) ≡ 256
   pub sender_era : (f f' : Frame (Option Sent)) → IsSent h n f → IsSent h (n + j) f' → f.era ≡ f'.era
   pub receiver_era : (g g' : Frame Taken) → IsTaken h n g → IsTaken h (n + j) g' → g.era ≡ g'.era
 
 -- ---- the law
 
--- of a history h that led from the link s to where it is now
-pub record Law (s : Link) (h : List Moment) : Type 0 where
+-- the law of a history h that led from the link s to where it is now
+pub record Law (s : Link) (h : List CallMade) : Type 0 where
   -- (a)
-  pub guarded_bits : (n : ℕ) (f : Sent) (x : Taken) → FewChanges h n f x → GuardedBitsHold f x
+  pub guarded_bits : (n : ℕ) (f : Sent) (x : Taken) → AtMostFourChanged h n f x → GuardedBitsHold f x
   -- (b)
-  pub sender_rounded : Rounded (past the_sender h) (now s h).sender.memories
-  pub receiver_rounded : Rounded (past the_receiver h) (now s h).receiver.memories
-  -- (c): each end's memories are those right after its own last of the 256
+  pub sender_rounded : Rounded (events_at the_sender h) (now s h).sender.memories
+  pub receiver_rounded : Rounded (events_at the_receiver h) (now s h).receiver.memories
+  -- (c): the memories of each end are those right after its own last of the 256
   pub agreement : (n j : ℕ) (f : Frame (Option Sent)) (g : Frame Taken) → InARow h n j → IsSent h (n + j) f → IsTaken h (n + j) g → Agree f.memories g.memories
 
 -- Every run from a new link keeps the law. It is proved of the rules of the calls, and as yet of no program.
 abbrev pub EveryRun : Type 0
-EveryRun = (s : Link) (h : List Moment) → New s → Run s h → Law s h
+EveryRun = (s : Link) (h : List CallMade) → New s → Run s h → Law s h
 
 -- the call c took a link from t to u; so any run from a new link that led to t goes on to u, and the law holds of it
 pub record Carried (t : Link) (c : Call) (u : Link) : Type 0 where
   pub step : Step t c u
-  pub goes_on : (s : Link) (h : List Moment) → New s → Run s h → now s h ≡ t
+  pub goes_on : (s : Link) (h : List CallMade) → New s → Run s h → now s h ≡ t
       → Run s (record { call = c; link = u } ∷ h) × Law s (record { call = c; link = u } ∷ h)
 
 -- every step carries each run on, and the law with it
@@ -112,4 +115,4 @@ EveryStepCarries = (t u : Link) (c : Call) → Step t c u → Carried t c u
 
 -- two runs, one after the other, are a run
 abbrev pub RunsJoin : Type 0
-RunsJoin = (s : Link) (h h' : List Moment) → Run s h → Run (now s h) h' → Run s (h' ++ h) × (now s (h' ++ h) ≡ now (now s h) h')
+RunsJoin = (s : Link) (h h' : List CallMade) → Run s h → Run (now s h) h' → Run s (h' ++ h) × (now s (h' ++ h) ≡ now (now s h) h')

@@ -9,5 +9,6 @@ pub mod Rows
 pub mod Runs
 pub mod Law
 pub mod Answers
+pub mod Keeping
 pub mod Marks
 pub mod Example

@@ -1,126 +1,94 @@
--- A link, and what each call on it does. Of each call one relation says what it answers, and the link after it, for each
--- answer; the case of a refusal says which tests were passed before it. Assumes nothing.
-use Rattle.std.specs.Prelude.{◌≡◌, ◌≢◌, ℕ, ◌-◌, ◌<◌, ◌≤◌, true, false, List, [], ◌∷◌, ◌++◌, length, set, Ok, Err, Option, Result}
+-- A link, and what each call on its parts does. Of each call one relation says what it answers, and the parts after it; the
+-- case of a refusal names the tests that were passed before it. Assumes nothing.
+use Rattle.std.specs.Prelude.{◌≡◌, ◌≢◌, ℕ, ◌-◌, ◌<◌, ◌≤◌, min, true, false, List, [], ◌∷◌, ◌++◌, length, set, Ok, Err, Option, Result}
 use Rattle.service.specs.declared.rates.Rate.{Rate}
-use Rattle.service.specs.declared.categories.Category.TheVariants.{Blank}
 use Rattle.service.specs.declared.refusals.Fault.TheVariants.{UnknownCategory, Length, SpareBits}
 use Rattle.service.specs.declared.refusals.Refusal.{Refusal}
-use Rattle.service.specs.declared.refusals.Refusal.TheVariants.{Faulty, Frequency, Pitch, Codebook, Draws as AllOnesDrawn, LineFull, NoArrival, Codes}
+use Rattle.service.specs.declared.refusals.Refusal.TheVariants.{Faulty, LineFull, NoArrival, Codes}
 use Rattle.service.specs.Categories.{category_of}
 use Rattle.service.specs.Rates.{rate_is}
-use Rattle.service.specs.Refusals.{refusal_is}
 use Rattle.service.specs.Tests.{unknown_category, wrong_length, spare_bits_set}
-use Rattle.lsp.specs.Histories.{after, packet as packet_event}
-use Rattle.packet.specs.declared.codes.CodeNumbers.{CodeNumbers}
-use Rattle.packet.specs.Calls.{packet}
-use Rattle.figures.specs.Codebook.{RefusesCodebooks}
-use Rattle.figures.specs.Pitch.{RefusesPitches}
-use Rattle.law.specs.Arrivals.{Arrival, are_bytes}
-use Rattle.law.specs.Readings.{last_pitch, lowered}
-use Rattle.law.specs.Ends.{Receiver, Sender, Taken, Takes, new_receiver, new_sender}
-use Rattle.law.specs.Sending.{AreComplete, Draws, Encodes, FrequenciesAllowed, NoDraw, Parameters, PitchesAllowed, RefusesFrequencies, drawn}
+use Rattle.law.specs.Arrivals.{Arrival, are_bytes, blank_arrival, is_lawful}
+use Rattle.law.specs.Readings.{lowered}
+use Rattle.law.specs.Ends.{Receiver, Sender, Taken, Takes}
+use Rattle.law.specs.Sending.{AreComplete, CodesFrame, CodingRefused, Parameters, Sent, arrival_sent, sender_after}
 
--- a line: the arrivals that wait on it, the oldest first, and how many it has places for
+-- a queue has at most 256 places
+abbrev pub most_places : ℕ
+most_places = 256
+
+-- the places of a queue in a memory of n places: the first 256 of them, if there are more
+abbrev pub places_in : ℕ → ℕ
+places_in n = min n most_places
+
+-- a line: the arrivals that wait on it, the oldest first, and how many places it has for them
 pub record Line : Type 0 where
   pub waiting : List Arrival
   pub places : ℕ
 
--- where the takes of a link come from: its own line, or another supply with so many arrivals to come
+-- where the takes of a link come from: its own line, or another supply with these arrivals to come
 pub data Supply : Type 0 where
   this_line : Supply
-  another : List Arrival → Supply
+  other_supply : List Arrival → Supply
 
+-- a link
 pub record Link : Type 0 where
   pub sender : Sender
   pub line : Line
   pub receiver : Receiver
   pub supply : Supply
 
+-- a place of the line is free
+abbrev pub HasRoom : Line → Type 0
+HasRoom line = length line.waiting < line.places
+
+-- no place of the line is free
+abbrev pub IsFull : Line → Type 0
+IsFull line = line.places ≤ length line.waiting
+
 -- the line with other arrivals waiting
 abbrev pub with_waiting : List Arrival → Line → Line
 with_waiting waiting line = record { waiting = waiting; places = line.places }
 
-abbrev pub HasRoom : Line → Type 0
-HasRoom line = length line.waiting < line.places
-
-abbrev pub IsFull : Line → Type 0
-IsFull line = line.places ≤ length line.waiting
+-- the line with one arrival more, behind those that wait
+abbrev pub with_last : Arrival → Line → Line
+with_last a line = with_waiting (line.waiting ++ (a ∷ [])) line
 
 -- ---- send
 
--- what an accepted send puts on the line; it answers the draws
-pub record Sent : Type 0 where
-  pub draws : ℕ
-  pub rate : Rate
-  pub codes : CodeNumbers
-  pub bytes : List ℕ
+-- the number names a rate and the line has room; so the parameters are coded at this rate
+abbrev pub Ready : Line → ℕ → Rate → Type 0
+Ready line n rate = ((rate_is rate).number ≡ n) × HasRoom line
 
--- the arrival that waits once it is sent
-abbrev pub arrival_sent : Sent → Arrival
-arrival_sent f = record { category = category_of (rate_is f.rate).number; bytes = f.bytes }
+-- the tests are made in the order 17, 14, and then those of coding
+abbrev pub SendRefused : Sender → Line → ℕ → Parameters → Refusal → Type 0
+SendRefused e line n p Codes = (rate : Rate) → (rate_is rate).number ≢ n
+SendRefused e line n p LineFull = ((rate : Rate) × ((rate_is rate).number ≡ n)) × IsFull line
+SendRefused e line n p refusal = (rate : Rate) × Ready line n rate × CodingRefused rate p e refusal
 
--- the sender after it: its memories follow the codes, as a receiver's do
-abbrev pub sender_after : Parameters → Sent → Sender → Sender
-sender_after p f e = record {
-  memories = after e.memories (packet_event f.rate f.codes.lsp ∷ []);
-  pitch = last_pitch f.rate p.pitches;
-  seed = drawn f.draws e.seed;
-}
+-- an accepted send: the packet joins the line
+pub record SendAccepted (e : Sender) (line : Line) (n : ℕ) (p : Parameters) (f : Sent) (e' : Sender) (line' : Line) : Type 0 where
+  pub ready : Ready line n f.rate
+  pub coded : CodesFrame f.rate p e f
+  pub sender : e' ≡ sender_after p f e
+  pub line_after : line' ≡ with_last (arrival_sent f) line
 
-abbrev pub link_after_send : Parameters → Sent → Link → Link
-link_after_send p f s = record {
-  sender = sender_after p f s.sender;
-  line = with_waiting (s.line.waiting ++ (arrival_sent f ∷ [])) s.line;
-  receiver = s.receiver;
-  supply = s.supply;
-}
-
--- the number names the rate, and the line has room
-abbrev pub Ready : Link → ℕ → Rate → Type 0
-Ready s n rate = ((rate_is rate).number ≡ n) × HasRoom s.line
-
--- the parameters are accepted, and this is the packet that is sent
-pub record Accepts (s : Link) (n : ℕ) (p : Parameters) (f : Sent) : Type 0 where
-  pub ready : Ready s n f.rate
-  pub frequencies : FrequenciesAllowed p
-  pub codes : Encodes f.rate p s.sender.memories f.codes
-  pub draws : Draws f.rate f.codes s.sender.seed f.draws
-  pub bytes : f.bytes ≡ packet f.rate f.codes
-
--- the tests in their order: 17, 14, 10, 11, 12, 13
-abbrev pub SendRefused : Link → ℕ → Parameters → Refusal → Type 0
-SendRefused s n p Codes = (rate : Rate) → (rate_is rate).number ≢ n
-SendRefused s n p LineFull = ((rate : Rate) × ((rate_is rate).number ≡ n)) × IsFull s.line
-SendRefused s n p (Frequency i) = ((rate : Rate) × Ready s n rate) × RefusesFrequencies p (refusal_is (Frequency i))
-SendRefused s n p (Pitch i) =
-    (rate : Rate) × Ready s n rate × FrequenciesAllowed p × RefusesPitches rate p.pitches (refusal_is (Pitch i))
-SendRefused s n p (Codebook i) =
-    (rate : Rate) × Ready s n rate × FrequenciesAllowed p × PitchesAllowed rate p
-    × RefusesCodebooks rate p.codebooks (refusal_is (Codebook i))
-SendRefused s n p AllOnesDrawn =
-    (rate : Rate) × Ready s n rate × FrequenciesAllowed p × NoDraw rate p s.sender.memories s.sender.seed
-SendRefused s n p _ = ⊥
-
-abbrev pub Sends : Link → ℕ → Parameters → Result Sent Refusal → Link → Type 0
-Sends s n p (Ok f) t = AreComplete p × Accepts s n p f × (t ≡ link_after_send p f s)
-Sends s n p (Err e) t = AreComplete p × SendRefused s n p e × (t ≡ s)
+-- what a send at the rate of a number answers, with the sender and the line after it
+abbrev pub Sends : Sender → Line → ℕ → Parameters → Result Sent Refusal → Sender → Line → Type 0
+Sends e line n p (Ok f) e' line' = AreComplete p × SendAccepted e line n p f e' line'
+Sends e line n p (Err refusal) e' line' = AreComplete p × SendRefused e line n p refusal × (e' ≡ e) × (line' ≡ line)
 
 -- ---- blank
 
--- a blank joins the line, and the sender's pitch gain is lowered
-abbrev pub link_after_blank : Link → Link
-link_after_blank s = record {
-  sender = record { memories = s.sender.memories; pitch = lowered s.sender.pitch; seed = s.sender.seed };
-  line = with_waiting (s.line.waiting ++ (record { category = Blank; bytes = [] } ∷ [])) s.line;
-  receiver = s.receiver;
-  supply = s.supply;
-}
+-- the sender after a blank
+abbrev pub sender_after_blank : Sender → Sender
+sender_after_blank e = record { memories = e.memories; pitch = lowered e.pitch; seed = e.seed }
 
--- refused by 14
-abbrev pub Blanks : Link → Result Unit Refusal → Link → Type 0
-Blanks s (Ok u) t = HasRoom s.line × (t ≡ link_after_blank s)
-Blanks s (Err LineFull) t = IsFull s.line × (t ≡ s)
-Blanks s (Err _) t = ⊥
+-- what a blank answers, with the sender and the line after it; it can be refused with 14 alone
+abbrev pub Blanks : Sender → Line → Result Unit Refusal → Sender → Line → Type 0
+Blanks e line (Ok u) e' line' = HasRoom line × (e' ≡ sender_after_blank e) × (line' ≡ with_last blank_arrival line)
+Blanks e line (Err LineFull) e' line' = IsFull line × (e' ≡ e) × (line' ≡ line)
+Blanks e line (Err _) e' line' = ⊥
 
 -- ---- disturb
 
@@ -128,58 +96,55 @@ Blanks s (Err _) t = ⊥
 abbrev pub Waits : Line → ℕ → Type 0
 Waits line n = (1 ≤ n) × (n ≤ length line.waiting)
 
--- the waiting arrival of this number is replaced by another
-abbrev pub link_after_disturb : ℕ → Arrival → Link → Link
-link_after_disturb n a s = record {
-  sender = s.sender;
-  line = with_waiting (set s.line.waiting (n - 1) a) s.line;
-  receiver = s.receiver;
-  supply = s.supply;
-}
-
--- the tests in their order: 15, 5, 6, 9; the last three name the arrival
-abbrev pub DisturbRefused : Link → ℕ → ℕ → List ℕ → Refusal → Type 0
-DisturbRefused s n c bytes NoArrival = Waits s.line n → ⊥
-DisturbRefused s n c bytes (Faulty (UnknownCategory i)) = (i ≡ n) × Waits s.line n × (unknown_category c ≡ true)
-DisturbRefused s n c bytes (Faulty (Length i)) =
-    (i ≡ n) × Waits s.line n × (unknown_category c ≡ false) × (wrong_length (category_of c) (length bytes) ≡ true)
-DisturbRefused s n c bytes (Faulty (SpareBits i)) =
-    (i ≡ n) × Waits s.line n × (unknown_category c ≡ false) × (wrong_length (category_of c) (length bytes) ≡ false)
+-- the tests are made in the order 15, 5, 6, 9; the last three name the arrival
+abbrev pub DisturbRefused : Line → ℕ → ℕ → List ℕ → Refusal → Type 0
+DisturbRefused line n c bytes NoArrival = Waits line n → ⊥
+DisturbRefused line n c bytes (Faulty (UnknownCategory i)) = (i ≡ n) × Waits line n × (unknown_category c ≡ true)
+DisturbRefused line n c bytes (Faulty (Length i)) =
+    (i ≡ n) × Waits line n × (unknown_category c ≡ false) × (wrong_length (category_of c) (length bytes) ≡ true)
+DisturbRefused line n c bytes (Faulty (SpareBits i)) =
+    (i ≡ n) × Waits line n × (unknown_category c ≡ false) × (wrong_length (category_of c) (length bytes) ≡ false)
     × (spare_bits_set (category_of c) bytes ≡ true)
-DisturbRefused s n c bytes _ = ⊥
+DisturbRefused line n c bytes _ = ⊥
 
--- none of the tests fails
-pub record Disturbable (s : Link) (n c : ℕ) (bytes : List ℕ) : Type 0 where
-  pub waits : Waits s.line n
-  pub category : unknown_category c ≡ false
-  pub size : wrong_length (category_of c) (length bytes) ≡ false
-  pub spare : spare_bits_set (category_of c) bytes ≡ false
+-- the arrival that a disturb puts on the line
+abbrev pub arrival_put : ℕ → List ℕ → Arrival
+arrival_put c bytes = record { category = category_of c; bytes = bytes }
 
-abbrev pub Disturbs : Link → ℕ → ℕ → List ℕ → Result Unit Refusal → Link → Type 0
-Disturbs s n c bytes (Ok u) t =
-    (are_bytes bytes ≡ true) × Disturbable s n c bytes × (t ≡ link_after_disturb n (record { category = category_of c; bytes = bytes }) s)
-Disturbs s n c bytes (Err e) t = (are_bytes bytes ≡ true) × DisturbRefused s n c bytes e × (t ≡ s)
+-- an accepted disturb: the waiting arrival is replaced by a lawful one
+pub record DisturbAccepted (line : Line) (n c : ℕ) (bytes : List ℕ) (line' : Line) : Type 0 where
+  pub waits : Waits line n
+  pub known : unknown_category c ≡ false
+  pub lawful : is_lawful (arrival_put c bytes) ≡ true
+  pub line_after : line' ≡ with_waiting (set line.waiting (n - 1) (arrival_put c bytes)) line
+
+-- what a disturb answers, with the line after it
+abbrev pub Disturbs : Line → ℕ → ℕ → List ℕ → Result Unit Refusal → Line → Type 0
+Disturbs line n c bytes (Ok u) line' = DisturbAccepted line n c bytes line'
+Disturbs line n c bytes (Err refusal) line' = (are_bytes bytes ≡ true) × DisturbRefused line n c bytes refusal × (line' ≡ line)
 
 -- ---- take
 
--- the arrivals that are to come
+-- the arrivals that are to come of a supply, beside this line
 abbrev pub to_come_from : Supply → Line → List Arrival
 to_come_from this_line line = line.waiting
-to_come_from (another list) line = list
+to_come_from (other_supply list) line = list
 
+-- the arrivals that are to come to a link
 abbrev pub to_come : Link → List Arrival
 to_come s = to_come_from s.supply s.line
 
--- the line and the supply once these are left to come
+-- the line once these are left to come
 abbrev pub line_left : Supply → List Arrival → Line → Line
 line_left this_line rest line = with_waiting rest line
-line_left (another list) rest line = line
+line_left (other_supply list) rest line = line
 
+-- the supply once these are left to come
 abbrev pub supply_left : Supply → List Arrival → Supply
 supply_left this_line rest = this_line
-supply_left (another list) rest = another rest
+supply_left (other_supply list) rest = other_supply rest
 
--- the receiver is e, and these are left to come
+-- the link whose receiver is e and to which these are left to come
 abbrev pub link_after_take : Receiver → List Arrival → Link → Link
 link_after_take e rest s = record {
   sender = s.sender;
@@ -188,14 +153,6 @@ link_after_take e rest s = record {
   supply = supply_left s.supply rest;
 }
 
--- the receiver takes from the link's supply, and nothing but these two is altered
+-- a link takes from its supply: the receiver and what is to come go on by the rule of a take, and nothing else is altered
 abbrev pub TakesFromSupply : Link → Option Taken → Link → Type 0
 TakesFromSupply s x t = Takes s.receiver (to_come s) x t.receiver (to_come t) × (t ≡ link_after_take t.receiver (to_come t) s)
-
--- ---- restart
-
-abbrev pub link_after_sender_restart : Link → Link
-link_after_sender_restart s = record { sender = new_sender; line = s.line; receiver = s.receiver; supply = s.supply }
-
-abbrev pub link_after_receiver_restart : Link → Link
-link_after_receiver_restart s = record { sender = s.sender; line = s.line; receiver = new_receiver; supply = s.supply }

@@ -32,10 +32,13 @@ only_cbgain8 n = record {
 abbrev pub packet_of_zeros : List ℕ
 packet_of_zeros = packet Full (only_cbgain8 0)
 
--- a suspect packet of these bytes gets this letter
-abbrev pub SuspectGets : Letter → List ℕ → Type 0
-SuspectGets l bytes = (x : Option Reading) × Reads Suspect bytes l x
+-- a suspect packet of these bytes gets this letter, and no other
+pub record SuspectGets (l : Letter) (bytes : List ℕ) : Type 0 where
+  pub reading : Option Reading
+  pub read : Reads Suspect bytes l reading
+  pub only : (l' : Letter) (x : Option Reading) → Reads Suspect bytes l' x → l' ≡ l
 
+-- the eight worked examples
 pub record WorkedExamples : Type 0 where
   -- D(16) = 15, D(-16) = -14 and D(-1) = -1; negsuc n is -(n + 1)
   pub decays : (decay (pos 16) ≡ pos 15) × (decay (negsuc 15) ≡ negsuc 13) × (decay (negsuc 0) ≡ negsuc 0)

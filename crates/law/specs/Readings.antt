@@ -20,44 +20,47 @@ use Rattle.figures.specs.Pitch.{DecodesPitches, pair_at}
 use Rattle.figures.specs.Codebook.{DecodesCodebooks}
 use Rattle.law.specs.GuardedBits.{corrected_packet}
 
--- what was read of a packet: its rate, its codes, and the pitch pairs and codebook figures that they stand for, of four and
--- eight subframes, of which the rate may have fewer
+-- what was read of a packet: its rate, its codes, and the pitch pairs and codebook figures that they stand for, in lists of
+-- four and of eight subframes, of which the rate may have fewer
 pub record Reading : Type 0 where
   pub rate : Rate
   pub codes : CodeNumbers
   pub pitches : List (ℕ × ℕ)
   pub codebooks : List (Option CodebookFigure)
 
--- the pitch codes and the codebook codes of a frame
-abbrev pub pitch_codes : CodeNumbers → PitchCodes
-pitch_codes c = record { plag = c.plag; pgain = c.pgain }
+-- the pitch codes among the codes of a frame
+abbrev pub pitch_codes_in : CodeNumbers → PitchCodes
+pitch_codes_in c = record { plag = c.plag; pgain = c.pgain }
 
-abbrev pub codebook_codes : CodeNumbers → CodebookCodes
-codebook_codes c = record { cbindex = c.cbindex; cbgain = c.cbgain }
+-- the codebook codes among them
+abbrev pub codebook_codes_in : CodeNumbers → CodebookCodes
+codebook_codes_in c = record { cbindex = c.cbindex; cbgain = c.cbgain }
 
--- pitch off: lag 16 and gain 0, in a subframe and in a frame
+-- pitch off in a subframe: lag 16 and gain 0
 abbrev pub no_pitch : ℕ × ℕ
 no_pitch = (16, 0)
 
+-- pitch off in each subframe of a frame
 abbrev pub pitch_off : List (ℕ × ℕ)
 pitch_off = replicate 4 no_pitch
 
--- all but the pitch of what these bytes are read as
+-- r is what these bytes are read as at rate q, but for its pitch
 pub record ReadsCodes (q : Rate) (bytes : List ℕ) (r : Reading) : Type 0 where
   pub rate : r.rate ≡ q
   pub codes : Holds q bytes r.codes
-  pub codebooks : DecodesCodebooks q (codebook_codes r.codes) r.codebooks
+  pub codebooks : DecodesCodebooks q (codebook_codes_in r.codes) r.codebooks
 
--- read with this letter; with the pitch of the codes, or with pitch off
+-- read with this letter, and with the pitch of the codes
 abbrev pub IsRead : Letter → Rate → List ℕ → Letter → Option Reading → Type 0
 IsRead letter rate bytes l x =
-    (l ≡ letter) × MatchOption x ⊥ (λ r. ReadsCodes rate bytes r × DecodesPitches rate (pitch_codes r.codes) r.pitches)
+    (l ≡ letter) × MatchOption x ⊥ (λ r. ReadsCodes rate bytes r × DecodesPitches rate (pitch_codes_in r.codes) r.pitches)
 
+-- read at Rate 1 with this letter, and with pitch off
 abbrev pub IsReadWithPitchOff : Letter → List ℕ → Letter → Option Reading → Type 0
 IsReadWithPitchOff letter bytes l x =
     (l ≡ letter) × MatchOption x ⊥ (λ r. ReadsCodes Rate1 bytes r × (r.pitches ≡ pitch_off))
 
--- not read, with this letter
+-- this letter, and nothing read
 abbrev pub IsNotRead : Letter → Letter → Option Reading → Type 0
 IsNotRead letter l x = (l ≡ letter) × (x ≡ None)
 
@@ -65,7 +68,8 @@ IsNotRead letter l x = (l ≡ letter) × (x ≡ None)
 abbrev pub AllOnes : Rate → List ℕ → Type 0
 AllOnes rate bytes = (k : ℕ) → k < (rate_is rate).bits → bit_at bytes k ≡ 1
 
--- the letter, and what is read, of an arrival of each category
+-- The letter l of an arrival of each category, and what is read of it, x. A suspect packet is read as it came if its syndrome is
+-- 0, whatever PCB[0] is, or with one bit corrected if the parity is odd and the syndrome points at that bit.
 abbrev pub Reads : Category → List ℕ → Letter → Option Reading → Type 0
 Reads Blank bytes l x = IsNotRead B l x
 Reads Eighth bytes l x = (AllOnes Rate1/8 bytes × IsNotRead D l x) ⊎ ((AllOnes Rate1/8 bytes → ⊥) × IsRead C Rate1/8 bytes l x)
@@ -79,18 +83,19 @@ Reads Suspect bytes l x =
     ⊎ ((syndrome (word_of bytes) ≢ 0) × ((p : ℕ) → Corrects (word_of bytes) p → ⊥) × IsNotRead D l x))
 Reads Erasure bytes l x = IsNotRead E l x
 
--- what happens to the receiver's memories: C, P and S are read, B is a blank, and any other letter is an erasure
+-- what a packet that was read is to the memories of an end; where its letter says that it was read, there is a reading
 abbrev pub packet_read : Option Reading → Event
 packet_read (Some r) = packet r.rate r.codes.lsp
-packet_read None = erasure  -- with these three letters there is always something read
+packet_read None = erasure
 
-abbrev pub event_of : Letter → Option Reading → Event
-event_of C x = packet_read x
-event_of P x = packet_read x
-event_of S x = packet_read x
-event_of D x = erasure
-event_of B x = blank
-event_of E x = erasure
+-- what an arrival is to the receiver's memories, by its letter: C, P and S are read, B is a blank, any other is an erasure
+abbrev pub event_read : Letter → Option Reading → Event
+event_read C x = packet_read x
+event_read P x = packet_read x
+event_read S x = packet_read x
+event_read D x = erasure
+event_read B x = blank
+event_read E x = erasure
 
 -- the pair of the last pitch subframe; Rate 1/8 has none, and its pitch is off
 abbrev pub last_pitch : Rate → List (ℕ × ℕ) → ℕ × ℕ
@@ -99,15 +104,16 @@ last_pitch Rate1/4 pairs = pair_at pairs ((rate_is Rate1/4).pitch_subframes - 1)
 last_pitch Rate1/2 pairs = pair_at pairs ((rate_is Rate1/2).pitch_subframes - 1)
 last_pitch Rate1 pairs = pair_at pairs ((rate_is Rate1).pitch_subframes - 1)
 
--- a blank keeps the lag, and lowers a gain above 4, which is 1, to 4
+-- a blank keeps the lag, and lowers a gain above 4 quarters to 4
 abbrev pub lowered : ℕ × ℕ → ℕ × ℕ
 lowered (lag, gain) = (lag, min gain 4)
 
--- the receiver's pitch pair after it
+-- the receiver's pitch pair after a packet that was read
 abbrev pub pitch_read : Option Reading → ℕ × ℕ
 pitch_read (Some r) = last_pitch r.rate r.pitches
 pitch_read None = no_pitch
 
+-- the receiver's pitch pair after an arrival, by its letter
 abbrev pub pitch_after : Letter → Option Reading → ℕ × ℕ → ℕ × ℕ
 pitch_after C x pair = pitch_read x
 pitch_after P x pair = pitch_read x

@@ -1,8 +1,10 @@
--- The rows of a page, and a run of takes that queues them. Assumes nothing.
-use Rattle.std.specs.Prelude.{◌≡◌, ℕ, ◌<◌, ◌≤◌, List, [], ◌∷◌, ◌++◌, length, map, take, ℤ, Some, None, Option}
+-- The rows of a page, a run of takes that queues them, and the page of a reel. Assumes nothing.
+use Rattle.std.specs.Prelude.{◌≡◌, ℕ, ◌<◌, ◌≤◌, Bool, true, false, List, [], ◌∷◌, ◌++◌, length, map, take, ℤ, Ok, Err, Some, None, Option, Result}
 use Rattle.service.specs.declared.readings.Letter.{Letter}
 use Rattle.service.specs.declared.readings.RunEnd.{RunEnd}
 use Rattle.service.specs.declared.readings.RunEnd.TheVariants.{Wanted, RowsFull, SupplyEmpty}
+use Rattle.service.specs.declared.refusals.Refusal.{Refusal}
+use Rattle.service.specs.declared.refusals.Refusal.TheVariants.{UnlawfulReel}
 use Rattle.service.specs.Rates.{rate_is}
 use Rattle.law.specs.Arrivals.{Arrival}
 use Rattle.law.specs.Readings.{Reading}
@@ -15,19 +17,23 @@ pub record Row : Type 0 where
   pub frequencies : List ℤ
   pub cbgain : Option (List ℕ)
 
-abbrev pub cbgain_of : Option Reading → Option (List ℕ)
-cbgain_of (Some r) = Some (take (rate_is r.rate).codebook_subframes r.codes.cbgain)
-cbgain_of None = None
+-- CBGAIN of each codebook subframe that was read
+abbrev pub cbgain_read : Option Reading → Option (List ℕ)
+cbgain_read (Some r) = Some (take (rate_is r.rate).codebook_subframes r.codes.cbgain)
+cbgain_read None = None
 
+-- the row of what was taken
 abbrev pub row_of : Taken → Row
-row_of x = record { letter = x.letter; frequencies = x.frequencies; cbgain = cbgain_of x.reading }
+row_of x = record { letter = x.letter; frequencies = x.frequencies; cbgain = cbgain_read x.reading }
+
+-- ---- a run of takes
 
 -- a receiver takes these, one after another
 abbrev pub TakesAll : Receiver → List Arrival → List Taken → Receiver → List Arrival → Type 0
 TakesAll e supply [] e' rest = (e' ≡ e) × (rest ≡ supply)
 TakesAll e supply (x ∷ xs) e' rest = (d : Receiver) × (list : List Arrival) × TakesOne e supply x d list × TakesAll d list xs e' rest
 
--- what a run answers
+-- what a run answers: how many rows it queued, and which of three ended it
 pub record RunAnswer : Type 0 where
   pub rows : ℕ
   pub end : RunEnd
@@ -39,8 +45,8 @@ Ended Wanted wanted n places queued rest = n ≡ wanted
 Ended RowsFull wanted n places queued rest = (n < wanted) × (queued ≡ places)
 Ended SupplyEmpty wanted n places queued rest = (n < wanted) × (queued < places) × (rest ≡ [])
 
--- a run of a receiver e that has this supply and a queue of rows with so many places
-pub record Runs (wanted places : ℕ) (e : Receiver) (supply : List Arrival) (queue : List Row) (a : RunAnswer) (e' : Receiver) (rest : List Arrival) (queue' : List Row) : Type 0 where
+-- a run of a receiver e that has this supply and a queue of rows with so many places: what it answers, and all three after it
+pub record RunsTakes (wanted places : ℕ) (e : Receiver) (supply : List Arrival) (queue : List Row) (a : RunAnswer) (e' : Receiver) (rest : List Arrival) (queue' : List Row) : Type 0 where
   pub taken : List Taken
   pub takes : TakesAll e supply taken e' rest
   pub queued : queue' ≡ queue ++ map row_of taken
@@ -49,6 +55,14 @@ pub record Runs (wanted places : ℕ) (e : Receiver) (supply : List Arrival) (qu
   pub wanted_at_most : length taken ≤ wanted
   pub ended : Ended a.end wanted (length taken) places (length queue') rest
 
--- the rows of the page of a reel whose arrivals these are: the receiver is restarted, and takes them all
+-- ---- a page
+
+-- what the page call answers for a reel that is lawful or not, and the receiver after it: restarted, or at refusal 18 as it was
+abbrev pub StartsPage : Bool → Receiver → Result Unit Refusal → Receiver → Type 0
+StartsPage lawful e (Ok u) e' = (lawful ≡ true) × (e' ≡ new_receiver)
+StartsPage lawful e (Err UnlawfulReel) e' = (lawful ≡ false) × (e' ≡ e)
+StartsPage lawful e (Err _) e' = ⊥
+
+-- the rows of the page of a reel whose arrivals these are: a restarted receiver takes them all
 abbrev pub PageRows : List Arrival → List Row → Type 0
 PageRows supply rows = (xs : List Taken) × (e : Receiver) × TakesAll new_receiver supply xs e [] × (rows ≡ map row_of xs)

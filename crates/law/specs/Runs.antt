@@ -3,10 +3,10 @@ use Rattle.std.specs.Prelude.{◌≡◌, ℕ, ◌+◌, ◌≤◌, true, List, []
 use Rattle.service.specs.declared.refusals.Refusal.{Refusal}
 use Rattle.lsp.specs.Histories.{Event, blank, packet, restart}
 use Rattle.law.specs.Arrivals.{are_lawful}
-use Rattle.law.specs.Readings.{event_of}
-use Rattle.law.specs.Ends.{Taken, new_receiver, new_sender}
-use Rattle.law.specs.Sending.{Parameters}
-use Rattle.law.specs.Links.{Blanks, Disturbs, Link, Sends, Sent, TakesFromSupply, link_after_receiver_restart, link_after_sender_restart, to_come}
+use Rattle.law.specs.Readings.{event_read}
+use Rattle.law.specs.Ends.{Receiver, Sender, Taken, new_receiver, new_sender}
+use Rattle.law.specs.Sending.{Parameters, Sent}
+use Rattle.law.specs.Links.{Blanks, Disturbs, Line, Link, Sends, TakesFromSupply, most_places, to_come}
 
 -- a call, with what it was given and what it answered
 pub data Call : Type 0 where
@@ -17,20 +17,24 @@ pub data Call : Type 0 where
   RestartSender : Call
   RestartReceiver : Call
 
--- a step: one call takes a link from s to t
+-- the link with another sender and another line
+abbrev pub with_sender_and_line : Sender → Line → Link → Link
+with_sender_and_line e line s = record { sender = e; line = line; receiver = s.receiver; supply = s.supply }
+
+-- the link with another receiver
+abbrev pub with_receiver : Receiver → Link → Link
+with_receiver e s = record { sender = s.sender; line = s.line; receiver = e; supply = s.supply }
+
+-- a step: one call takes a link from s to t, and alters nothing of it but the parts that its rule names
 abbrev pub Step : Link → Call → Link → Type 0
-Step s (Send n p r) t = Sends s n p r t
-Step s (Blank r) t = Blanks s r t
-Step s (Disturb n c bytes r) t = Disturbs s n c bytes r t
+Step s (Send n p r) t = Sends s.sender s.line n p r t.sender t.line × (t ≡ with_sender_and_line t.sender t.line s)
+Step s (Blank r) t = Blanks s.sender s.line r t.sender t.line × (t ≡ with_sender_and_line t.sender t.line s)
+Step s (Disturb n c bytes r) t = Disturbs s.line n c bytes r t.line × (t ≡ with_sender_and_line s.sender t.line s)
 Step s (Take x) t = TakesFromSupply s x t
-Step s RestartSender t = t ≡ link_after_sender_restart s
-Step s RestartReceiver t = t ≡ link_after_receiver_restart s
+Step s RestartSender t = t ≡ with_sender_and_line new_sender s.line s
+Step s RestartReceiver t = t ≡ with_receiver new_receiver s
 
--- a line has at most so many places
-abbrev pub most_places : ℕ
-most_places = 256
-
--- A link is new if both ends are, whatever lawful arrivals wait on its line and are to come.
+-- a link is new if both ends are, whatever lawful arrivals wait on its line and are to come
 pub record New (s : Link) : Type 0 where
   pub sender : s.sender ≡ new_sender
   pub receiver : s.receiver ≡ new_receiver
@@ -39,109 +43,116 @@ pub record New (s : Link) : Type 0 where
   pub waiting : are_lawful s.line.waiting ≡ true
   pub supply : are_lawful (to_come s) ≡ true
 
--- a call made, and the link right after it
-pub record Moment : Type 0 where
+-- a call that was made, and the link right after it
+pub record CallMade : Type 0 where
   pub call : Call
   pub link : Link
 
--- the link after a history of calls from s; in a history the latest call stands first
-abbrev pub now : Link → List Moment → Link
+-- the link after the calls of a history, from s; in a history the latest call stands first
+abbrev pub now : Link → List CallMade → Link
 now s [] = s
 now s (m ∷ h) = m.link
 
 -- the history is a run from s: each call starts where the one before it ended
-abbrev pub Run : Link → List Moment → Type 0
+abbrev pub Run : Link → List CallMade → Type 0
 Run s [] = Unit {0}
 Run s (m ∷ h) = Step (now s h) m.call m.link × Run s h
 
 -- ---- the frames of each end
 
--- what a call is to one end: a frame, a restart, or nothing
-pub data Part (A : Type 0) : Type 0 where
-  frame : A → Part A
-  restarts : Part A
-  nothing : Part A
+-- what a call is to one end: a frame of it, a restart, or nothing
+pub data Role (A : Type 0) : Type 0 where
+  frame : A → Role A
+  restarts : Role A
+  nothing : Role A
 
--- the frames sent are the accepted sends, and the accepted blanks, which are none
-abbrev pub sender_part : Call → Part (Option Sent)
-sender_part (Send n p (Ok f)) = frame (Some f)
-sender_part (Send n p (Err e)) = nothing
-sender_part (Blank (Ok u)) = frame None
-sender_part (Blank (Err e)) = nothing
-sender_part (Disturb n c bytes r) = nothing
-sender_part (Take x) = nothing
-sender_part RestartSender = restarts
-sender_part RestartReceiver = nothing
+-- the sender's frames are the accepted sends, shown as Some, and the accepted blanks, shown as None
+abbrev pub sender_role : Call → Role (Option Sent)
+sender_role (Send n p (Ok f)) = frame (Some f)
+sender_role (Send n p (Err e)) = nothing
+sender_role (Blank (Ok u)) = frame None
+sender_role (Blank (Err e)) = nothing
+sender_role (Disturb n c bytes r) = nothing
+sender_role (Take x) = nothing
+sender_role RestartSender = restarts
+sender_role RestartReceiver = nothing
 
--- the arrivals taken are the takes that answered other than none
-abbrev pub receiver_part : Call → Part Taken
-receiver_part (Send n p r) = nothing
-receiver_part (Blank r) = nothing
-receiver_part (Disturb n c bytes r) = nothing
-receiver_part (Take (Some x)) = frame x
-receiver_part (Take None) = nothing
-receiver_part RestartSender = nothing
-receiver_part RestartReceiver = restarts
+-- the receiver's frames are the takes that answered other than none
+abbrev pub receiver_role : Call → Role Taken
+receiver_role (Send n p r) = nothing
+receiver_role (Blank r) = nothing
+receiver_role (Disturb n c bytes r) = nothing
+receiver_role (Take (Some x)) = frame x
+receiver_role (Take None) = nothing
+receiver_role RestartSender = nothing
+receiver_role RestartReceiver = restarts
 
--- what a frame sent, and an arrival taken, is to the memories of its end
+-- what a frame sent is to the sender's memories
 abbrev pub sent_event : Option Sent → Event
 sent_event (Some f) = packet f.rate f.codes.lsp
 sent_event None = blank
 
+-- what an arrival taken is to the receiver's memories
 abbrev pub taken_event : Taken → Event
-taken_event x = event_of x.letter x.reading
+taken_event x = event_read x.letter x.reading
 
--- the end that a call may be a part of: what it is to it, what a frame is to its memories, and which memories these are
-pub record Side (A : Type 0) : Type 0 where
-  pub part : Call → Part A
+-- one end of a link: which calls are its frames and restarts, what a frame is to its memories, and where a link has these
+pub record LinkEnd (A : Type 0) : Type 0 where
+  pub role : Call → Role A
   pub event : A → Event
   pub memories : Link → List ℤ
 
-abbrev pub the_sender : Side (Option Sent)
-the_sender = record { part = sender_part; event = sent_event; memories = λ s. s.sender.memories }
+-- the sending end
+abbrev pub the_sender : LinkEnd (Option Sent)
+the_sender = record { role = sender_role; event = sent_event; memories = λ s. s.sender.memories }
 
-abbrev pub the_receiver : Side Taken
-the_receiver = record { part = receiver_part; event = taken_event; memories = λ s. s.receiver.memories }
+-- the receiving end
+abbrev pub the_receiver : LinkEnd Taken
+the_receiver = record { role = receiver_role; event = taken_event; memories = λ s. s.receiver.memories }
+
+-- what a call of this role is to the memories
+abbrev pub events_of_role : {A : Type 0} → (A → Event) → Role A → List Event
+events_of_role event (frame a) = event a ∷ []
+events_of_role event restarts = restart ∷ []
+events_of_role event nothing = []
 
 -- all that happened to the memories of an end, the latest first
-abbrev pub events_of_part : {A : Type 0} → (A → Event) → Part A → List Event
-events_of_part event (frame a) = event a ∷ []
-events_of_part event restarts = restart ∷ []
-events_of_part event nothing = []
+abbrev pub events_at : {A : Type 0} → LinkEnd A → List CallMade → List Event
+events_at end [] = []
+events_at end (m ∷ h) = events_of_role end.event (end.role m.call) ++ events_at end h
 
-abbrev pub past : {A : Type 0} → Side A → List Moment → List Event
-past side [] = []
-past side (m ∷ h) = events_of_part side.event (side.part m.call) ++ past side h
+-- how many restarts a call of this role is
+abbrev pub restarts_of_role : {A : Type 0} → Role A → ℕ
+restarts_of_role (frame a) = 0
+restarts_of_role restarts = 1
+restarts_of_role nothing = 0
 
 -- how often an end was restarted
-abbrev pub restarts_of_part : {A : Type 0} → Part A → ℕ
-restarts_of_part (frame a) = 0
-restarts_of_part restarts = 1
-restarts_of_part nothing = 0
+abbrev pub restarts_at : {A : Type 0} → LinkEnd A → List CallMade → ℕ
+restarts_at end [] = 0
+restarts_at end (m ∷ h) = restarts_of_role (end.role m.call) + restarts_at end h
 
-abbrev pub restarts_in : {A : Type 0} → Side A → List Moment → ℕ
-restarts_in side [] = 0
-restarts_in side (m ∷ h) = restarts_of_part (side.part m.call) + restarts_in side h
-
--- a frame of an end: what it is, the end's memories right after it, and how often the end was restarted before it
+-- a frame of an end: what it is, the end's memories right after it, and how often the end was restarted before it, its era
 pub record Frame (A : Type 0) : Type 0 where
   pub what : A
   pub memories : List ℤ
   pub era : ℕ
 
-abbrev pub frame_of_part : {A : Type 0} → Part A → List ℤ → ℕ → List (Frame A)
-frame_of_part (frame a) m n = record { what = a; memories = m; era = n } ∷ []
-frame_of_part restarts m n = []
-frame_of_part nothing m n = []
+-- the frame that a call of this role is, with memories m after it and n restarts before it
+abbrev pub frame_of_role : {A : Type 0} → Role A → List ℤ → ℕ → List (Frame A)
+frame_of_role (frame a) m n = record { what = a; memories = m; era = n } ∷ []
+frame_of_role restarts m n = []
+frame_of_role nothing m n = []
 
 -- the frames of an end over a whole run, the first first
-abbrev pub frames : {A : Type 0} → Side A → List Moment → List (Frame A)
-frames side [] = []
-frames side (m ∷ h) = frames side h ++ frame_of_part (side.part m.call) (side.memories m.link) (restarts_in side h)
+abbrev pub frames_at : {A : Type 0} → LinkEnd A → List CallMade → List (Frame A)
+frames_at end [] = []
+frames_at end (m ∷ h) = frames_at end h ++ frame_of_role (end.role m.call) (end.memories m.link) (restarts_at end h)
 
--- the frames sent and the arrivals taken
-abbrev pub frames_sent : List Moment → List (Frame (Option Sent))
-frames_sent h = frames the_sender h
+-- the frames sent
+abbrev pub frames_sent : List CallMade → List (Frame (Option Sent))
+frames_sent h = frames_at the_sender h
 
-abbrev pub arrivals_taken : List Moment → List (Frame Taken)
-arrivals_taken h = frames the_receiver h
+-- the arrivals taken
+abbrev pub arrivals_taken : List CallMade → List (Frame Taken)
+arrivals_taken h = frames_at the_receiver h

@@ -1,10 +1,14 @@
 -- How a sender codes a frame, and when it refuses one. Assumes nothing.
-use Rattle.std.specs.Prelude.{◌≡◌, ℕ, zero, suc, ◌+◌, ◌*◌, ◌%◌, ◌<◌, ◌≤◌, Bool, true, ◌&&◌, List, length, ℤ, pos, ◌-ℤ◌, int_le, slice_index_or}
+use Rattle.std.specs.Prelude.{◌≡◌, ℕ, zero, suc, ◌+◌, ◌*◌, ◌%◌, ◌<◌, ◌≤◌, Bool, true, ◌&&◌, List, [], ◌∷◌, length, Ok, Err, Result, ℤ, pos, ◌-ℤ◌, int_le, slice_index_or}
 use Rattle.service.specs.declared.rates.Rate.{Rate}
 use Rattle.service.specs.declared.rates.Rate.TheVariants.{Full, Half, Quarter, Eighth}
+use Rattle.service.specs.declared.refusals.Refusal.{Refusal}
+use Rattle.service.specs.declared.refusals.Refusal.TheVariants.{Frequency, Pitch, Codebook, Draws as AllDraws}
+use Rattle.service.specs.Categories.{category_of}
 use Rattle.service.specs.Rates.{rate_is}
-use Rattle.service.specs.Refusals.{Answer}
+use Rattle.service.specs.Refusals.{Answer, refusal_is}
 use Rattle.lsp.specs.Decay.{decay}
+use Rattle.lsp.specs.Histories.{after, packet as packet_event}
 use Rattle.lsp.specs.Quantizers.{quantized}
 use Rattle.lsp.specs.States.{bias}
 use Rattle.lsp.specs.Ten.{ten}
@@ -12,56 +16,67 @@ use Rattle.packet.specs.declared.codes.CodeNumbers.{CodeNumbers}
 use Rattle.packet.specs.Bits.{bit}
 use Rattle.packet.specs.Calls.{packet}
 use Rattle.figures.specs.declared.codebook.CodebookParameter.{CodebookParameter}
-use Rattle.figures.specs.Codebook.{EncodesCodebooks, codebook_allowed, parameter_at}
-use Rattle.figures.specs.Pitch.{EncodesPitches, pair_at, pitch_allowed}
+use Rattle.figures.specs.Codebook.{EncodesCodebooks, RefusesCodebooks, codebook_allowed, parameter_at}
+use Rattle.figures.specs.Pitch.{EncodesPitches, RefusesPitches, pair_at, pitch_allowed}
 use Rattle.figures.specs.Subframes.{RefusedAtFirst}
-use Rattle.law.specs.Readings.{AllOnes, codebook_codes, pitch_codes}
+use Rattle.law.specs.Arrivals.{Arrival}
+use Rattle.law.specs.Readings.{AllOnes, codebook_codes_in, last_pitch, pitch_codes_in}
+use Rattle.law.specs.Ends.{Sender}
 
--- the parameters of a frame: ten LSP frequencies in grains, four pitch pairs and eight codebook parameters, of which those past
--- the subframes of the rate are not looked at
+-- the parameters of a frame: LSP frequencies in grains, pitch pairs and codebook parameters. Those past the subframes of the
+-- rate are not looked at.
 pub record Parameters : Type 0 where
   pub frequencies : List ℤ
   pub pitches : List (ℕ × ℕ)
   pub codebooks : List CodebookParameter
 
+-- there are ten, four and eight of them
 pub record AreComplete (p : Parameters) : Type 0 where
   pub frequencies : length p.frequencies ≡ 10
   pub pitches : length p.pitches ≡ 4
   pub codebooks : length p.codebooks ≡ 8
 
--- the frequency of the LSP at an index, and the highest that can be sent: one half of the sampling frequency
+-- ---- which parameters are allowed
+
+-- the frequency of the LSP at an index
 abbrev pub frequency_at : List ℤ → ℕ → ℤ
 frequency_at fs i = slice_index_or fs i (pos 0)
 
+-- the highest frequency that can be sent, one half of the sampling frequency
 abbrev pub highest_frequency : ℤ
 highest_frequency = pos 5406720000
 
+-- a frequency that can be sent
 abbrev pub frequency_allowed : ℤ → Bool
 frequency_allowed f = int_le (pos 0) f && int_le f highest_frequency
 
--- the parameters pass the tests of the frequencies, of the pitch and of the codebook
+-- each of the ten frequencies is allowed
 abbrev pub FrequenciesAllowed : Parameters → Type 0
 FrequenciesAllowed p = (i : ℕ) → i < 10 → frequency_allowed (frequency_at p.frequencies i) ≡ true
 
-abbrev pub PitchesAllowed : Rate → Parameters → Type 0
-PitchesAllowed rate p = (i : ℕ) → i < (rate_is rate).pitch_subframes → pitch_allowed (pair_at p.pitches i) ≡ true
-
-abbrev pub CodebooksAllowed : Rate → Parameters → Type 0
-CodebooksAllowed rate p = (i : ℕ) → i < (rate_is rate).codebook_subframes → codebook_allowed rate (parameter_at p.codebooks i) ≡ true
-
--- refusal 10 of the first LSP whose frequency is not allowed
+-- refusal 10 of the first LSP whose frequency is not
 abbrev pub RefusesFrequencies : Parameters → Answer → Type 0
 RefusesFrequencies p answer = RefusedAtFirst 10 10 (λ i. frequency_allowed (frequency_at p.frequencies i)) answer
 
--- what is quantized: frequency - bias - D(memory)
+-- the pitch pair of each subframe of the rate is allowed
+abbrev pub PitchesAllowed : Rate → Parameters → Type 0
+PitchesAllowed rate p = (i : ℕ) → i < (rate_is rate).pitch_subframes → pitch_allowed (pair_at p.pitches i) ≡ true
+
+-- the codebook parameter of each subframe of the rate is allowed
+abbrev pub CodebooksAllowed : Rate → Parameters → Type 0
+CodebooksAllowed rate p = (i : ℕ) → i < (rate_is rate).codebook_subframes → codebook_allowed rate (parameter_at p.codebooks i) ≡ true
+
+-- ---- their codes
+
+-- what is quantized, of frequencies and memories: frequency - bias - D(memory)
 abbrev pub offsets : List ℤ → List ℤ → List ℤ
 offsets fs m = ten (λ i. frequency_at fs i -ℤ bias i -ℤ decay (slice_index_or m i (pos 0)))
 
 -- the codes of the parameters, sent with memories m, but for CBSEED
 pub record Encodes (rate : Rate) (p : Parameters) (m : List ℤ) (c : CodeNumbers) : Type 0 where
   pub lsp : c.lsp ≡ quantized rate (offsets p.frequencies m)
-  pub pitch : EncodesPitches rate p.pitches (pitch_codes c)
-  pub codebook : EncodesCodebooks rate p.codebooks (codebook_codes c)
+  pub pitch : EncodesPitches rate p.pitches (pitch_codes_in c)
+  pub codebook : EncodesCodebooks rate p.codebooks (codebook_codes_in c)
 
 -- SD after n draws
 unfoldable pub drawn : ℕ → ℕ → ℕ
@@ -77,30 +92,74 @@ abbrev pub with_cbseed : ℕ → CodeNumbers → CodeNumbers
 with_cbseed n c = record { lsp = c.lsp; plag = c.plag; pgain = c.pgain; cbindex = c.cbindex; cbgain = c.cbgain; cbseed = n }
 
 -- with CBSEED of draw n the packet of these codes is all ones
-abbrev pub OnesAtDraw : CodeNumbers → ℕ → ℕ → Type 0
-OnesAtDraw c seed n = AllOnes Eighth (packet Eighth (with_cbseed (cbseed_of (drawn n seed)) c))
+abbrev pub AllOnesAtDraw : CodeNumbers → ℕ → ℕ → Type 0
+AllOnesAtDraw c seed n = AllOnes Eighth (packet Eighth (with_cbseed (cbseed_of (drawn n seed)) c))
 
--- at most so many draws are made for a packet
+-- at most 16 draws are made for a packet
 abbrev pub most_draws : ℕ
 most_draws = 16
 
 -- draw n is the first whose packet is not all ones
-pub record FirstNotOnes (c : CodeNumbers) (seed n : ℕ) : Type 0 where
+pub record FirstNotAllOnes (c : CodeNumbers) (seed n : ℕ) : Type 0 where
   pub some : 1 ≤ n
   pub most : n ≤ most_draws
-  pub before : (k : ℕ) → 1 ≤ k → k < n → OnesAtDraw c seed k
-  pub at : OnesAtDraw c seed n → ⊥
+  pub before : (k : ℕ) → 1 ≤ k → k < n → AllOnesAtDraw c seed k
+  pub at : AllOnesAtDraw c seed n → ⊥
 
 -- n draws of the seed are made for the codes c, and the last gives CBSEED; only Rate 1/8 has any
 abbrev pub Draws : Rate → CodeNumbers → ℕ → ℕ → Type 0
-Draws Eighth c seed n = FirstNotOnes c seed n × (c.cbseed ≡ cbseed_of (drawn n seed))
+Draws Eighth c seed n = FirstNotAllOnes c seed n × (c.cbseed ≡ cbseed_of (drawn n seed))
 Draws Quarter c seed n = (n ≡ 0) × (c.cbseed ≡ 0)
 Draws Half c seed n = (n ≡ 0) × (c.cbseed ≡ 0)
 Draws Full c seed n = (n ≡ 0) × (c.cbseed ≡ 0)
 
--- every draw that may be made for the codes of the parameters gives a packet of all ones; only Rate 1/8 can have that
+-- each draw that may be made for the codes of the parameters gives a packet of all ones; only Rate 1/8 can have that
 abbrev pub NoDraw : Rate → Parameters → List ℤ → ℕ → Type 0
-NoDraw Eighth p m seed = (c : CodeNumbers) × Encodes Eighth p m c × ((k : ℕ) → 1 ≤ k → k ≤ most_draws → OnesAtDraw c seed k)
+NoDraw Eighth p m seed = (c : CodeNumbers) × Encodes Eighth p m c × ((k : ℕ) → 1 ≤ k → k ≤ most_draws → AllOnesAtDraw c seed k)
 NoDraw Quarter p m seed = ⊥
 NoDraw Half p m seed = ⊥
 NoDraw Full p m seed = ⊥
+
+-- ---- a frame is coded, or refused
+
+-- what is sent of a frame: the draws that were made, and the packet
+pub record Sent : Type 0 where
+  pub draws : ℕ
+  pub rate : Rate
+  pub codes : CodeNumbers
+  pub bytes : List ℕ
+
+-- a sender e codes the parameters at a rate
+pub record CodesFrame (q : Rate) (p : Parameters) (e : Sender) (f : Sent) : Type 0 where
+  pub rate : f.rate ≡ q
+  pub frequencies : FrequenciesAllowed p
+  pub codes : Encodes q p e.memories f.codes
+  pub draws : Draws q f.codes e.seed f.draws
+  pub bytes : f.bytes ≡ packet q f.codes
+
+-- the sender after it; its memories follow the codes, as a receiver's do
+abbrev pub sender_after : Parameters → Sent → Sender → Sender
+sender_after p f e = record {
+  memories = after e.memories (packet_event f.rate f.codes.lsp ∷ []);
+  pitch = last_pitch f.rate p.pitches;
+  seed = drawn f.draws e.seed;
+}
+
+-- it refuses them; the tests are made in the order 10, 11, 12, 13
+abbrev pub CodingRefused : Rate → Parameters → Sender → Refusal → Type 0
+CodingRefused rate p e (Frequency i) = RefusesFrequencies p (refusal_is (Frequency i))
+CodingRefused rate p e (Pitch i) = FrequenciesAllowed p × RefusesPitches rate p.pitches (refusal_is (Pitch i))
+CodingRefused rate p e (Codebook i) =
+    FrequenciesAllowed p × PitchesAllowed rate p × RefusesCodebooks rate p.codebooks (refusal_is (Codebook i))
+CodingRefused rate p e AllDraws =
+    FrequenciesAllowed p × PitchesAllowed rate p × CodebooksAllowed rate p × NoDraw rate p e.memories e.seed
+CodingRefused rate p e _ = ⊥
+
+-- the packet as it arrives, if nothing disturbs it: the category of a packet has the number of its rate
+abbrev pub arrival_sent : Sent → Arrival
+arrival_sent f = record { category = category_of (rate_is f.rate).number; bytes = f.bytes }
+
+-- what a send answers its caller: the number of draws, or the refusal
+abbrev pub send_answer : Result Sent Refusal → Result ℕ Refusal
+send_answer (Ok f) = Ok f.draws
+send_answer (Err e) = Err e

@@ -3,9 +3,10 @@
 
 ghost use Rattle.law.specs.Words.{ChangesOfWords};
 ghost use Rattle.law.specs.Law.{EveryRun, EveryStepCarries, RunsJoin};
-ghost use Rattle.law.specs.Example.{ARun};
+ghost use Rattle.law.specs.Example.{ExampleRun};
 ghost use Rattle.law.specs.Marks.{WorkedExamples};
-ghost use Rattle.law.specs.Answers.{EachTakeIsACall, EveryLinkKeeps, OneAnswerToEachCall, OneAnswerToEachRun, OneReadingOfEachArrival};
+ghost use Rattle.law.specs.Keeping.{EveryLineDelivers, EveryLinkKeeps};
+ghost use Rattle.law.specs.Answers.{ChainOfTakesIsARun, ChainsOfTakesJoin, EachTakeIsACall, OneAnswerToEachCall, OneAnswerToEachRunOfTakes, OnePage, OneReadingOfEachArrival, OneSessionOfCommands};
 
 /// Carries a theorem: every run of calls from a new link keeps the law.
 #[tactic(auto, using(crate::proofs::Every::every_run))]
@@ -60,18 +61,49 @@ pub fn one_answer()
 /// Carries a theorem: every run of takes has exactly one answer, and leaves exactly one receiver, supply and queue of rows.
 #[tactic(auto, using(crate::proofs::OneRun::one_run))]
 pub fn one_run()
-    ensures { OneAnswerToEachRun }
+    ensures { OneAnswerToEachRunOfTakes }
 {}
 
-/// Carries a theorem: takes one after another on a link are the take calls of a run.
+/// Carries a theorem: takes one after another on a link are a run of take calls.
 #[tactic(auto, using(crate::proofs::OneRun::takes_are_calls))]
 pub fn takes_are_calls()
-    ensures { EachTakeIsACall }
+    ensures { ChainOfTakesIsARun }
 {}
 
 /// Carries a theorem: the law is not empty. There is a run in which the ends' memories differ, 256 packets in a row are read as
 /// sent with a blank, a corrected packet and one with a wrong PCB[0] among them, and a packet with two wrong bits is erased.
 #[tactic(auto, using(crate::proofs::Example::example_run))]
-pub fn a_run()
-    ensures { ARun }
+pub fn example_run()
+    ensures { ExampleRun }
+{}
+
+/// Carries a theorem: a take of the receiver from what is to come to its link is a take call on the link.
+#[tactic(auto, using(crate::proofs::OneRun::each_take_is_a_call))]
+pub fn each_take_is_a_call()
+    ensures { EachTakeIsACall }
+{}
+
+/// Carries a theorem: takes and then further takes are takes of both.
+#[tactic(auto, using(crate::proofs::OneRun::takes_join))]
+pub fn takes_join()
+    ensures { ChainsOfTakesJoin }
+{}
+
+/// Carries a theorem: the page call has exactly one answer, and each supply has the rows of exactly one page.
+#[tactic(auto, using(crate::proofs::OneRun::one_page))]
+pub fn one_page()
+    ensures { OnePage }
+{}
+
+/// Carries a theorem: from every link each list of commands has exactly one run.
+#[tactic(auto, using(crate::proofs::Sessions::one_session))]
+pub fn one_session()
+    ensures { OneSessionOfCommands }
+{}
+
+/// Carries a theorem: on a link that takes from its own line, on which nothing waited at first, as many frames were sent as
+/// arrivals were taken and wait; and what is taken is what was sent, in its order, if nothing is disturbed.
+#[tactic(auto, using(crate::proofs::Delivers::every_line_delivers))]
+pub fn every_line_delivers()
+    ensures { EveryLineDelivers }
 {}

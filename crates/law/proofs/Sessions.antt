@@ -1,0 +1,71 @@
+-- From every link each list of commands has one run.
+use Rattle.std.proofs.Common.{◌≡◌, List, [], ◌∷◌, ◌++◌, length, map, reverse, refl, sym, ap, ap₂, ◌∙◌, subst, arith}
+use Rattle.std.proofs.lemmas.List.{map-append, reverse-append}
+use Rattle.law.specs.Links.{Link}
+use Rattle.law.specs.Runs.{Call, CallMade, Run, Step, now}
+use Rattle.law.specs.Answers.{AreAllComplete, Command, IsSession, OneSessionOfCommands, command_of}
+use Rattle.law.proofs.OneAnswer.{one_answer}
+use Rattle.law.proofs.OneRun.{run_before}
+
+abbrev command_made : CallMade → Command
+command_made m = command_of m.call
+
+session_some : (s : Link) (commands : List Command) → AreAllComplete commands → (h : List CallMade) × IsSession s commands h
+session_some s [] complete = ([], record { run = tt; given = refl })
+session_some s (command ∷ commands) complete =
+    let first = one_answer.some s command complete.0 in
+    let m : CallMade = record { call = first.call; link = first.link } in
+    let (h, session) = session_some first.link commands complete.1 in (
+      h ++ (m ∷ []),
+      record {
+        run = run_before s m first.step h session.run;
+        given = ap (map command_made) (reverse-append h (m ∷ [])) ∙ ap₂ (λ c l. c ∷ l) first.given session.given;
+      },
+    )
+
+reverse_twice : {A : Type 0} (xs : List A) → reverse (reverse xs) ≡ xs
+reverse_twice [] = refl
+reverse_twice (x ∷ xs) =
+    ap reverse (reverse-append (x ∷ []) xs) ∙ reverse-append (reverse xs) (x ∷ []) ∙ ap (λ l. x ∷ l) (reverse_twice xs)
+
+map_reverse : {A B : Type 0} (f : A → B) (xs : List A) → map f (reverse xs) ≡ reverse (map f xs)
+map_reverse f [] = refl
+map_reverse f (x ∷ xs) =
+    ap (map f) (reverse-append (x ∷ []) xs) ∙ map-append f (reverse xs) (x ∷ []) ∙ ap (λ l. l ++ (f x ∷ [])) (map_reverse f xs)
+    ∙ sym (reverse-append (f x ∷ []) (map f xs))
+
+-- the commands of a history, the latest first
+backward : (s : Link) (commands : List Command) (h : List CallMade) → IsSession s commands h → map command_made h ≡ reverse commands
+backward s commands h session =
+    sym (reverse_twice (map command_made h)) ∙ ap reverse (sym (map_reverse command_made h)) ∙ ap reverse session.given
+
+first_command : List Command → Command → Command
+first_command [] d = d
+first_command (c ∷ l) d = c
+
+rest_commands : List Command → List Command
+rest_commands [] = []
+rest_commands (c ∷ l) = l
+
+same_made : (m m' : CallMade) → m.call ≡ m'.call → m.link ≡ m'.link → m ≡ m'
+same_made m m' e e' = ap₂ (λ c l. made c l) e e'
+  where
+    made : Call → Link → CallMade
+    made c l = record { call = c; link = l }
+
+histories_once : (s : Link) (h h' : List CallMade) → map command_made h ≡ map command_made h' → Run s h → Run s h' → h ≡ h'
+unfolding first_command rest_commands
+histories_once s [] [] e r r' = refl
+histories_once s [] (m ∷ h) e r r' = absurd (omega (arith, ap length e))
+histories_once s (m ∷ h) [] e r r' = absurd (omega (arith, ap length e))
+histories_once s (m ∷ h) (m' ∷ h') e r r' =
+    let before = histories_once s h h' (ap rest_commands e) r.1 r'.1 in
+    let step' : Step (now s h) m'.call m'.link = subst (λ l. Step (now s l) m'.call m'.link) (sym before) r'.0 in
+    let same = one_answer.only (now s h) m.link m'.link m.call m'.call (ap (λ l. first_command l (command_made m)) e) r.0 step' in
+    ap₂ (λ x l. x ∷ l) (same_made m m' same.0 same.1) before
+
+pub one_session : OneSessionOfCommands
+one_session = record {
+  some = session_some;
+  only = λ s commands h h' a b. histories_once s h h' (backward s commands h a ∙ sym (backward s commands h' b)) a.run b.run;
+}

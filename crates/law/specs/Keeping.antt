@@ -1,0 +1,58 @@
+-- What every link keeps, and what its own line delivers. Assumes nothing.
+use Rattle.std.specs.Prelude.{◌≡◌, ◌+◌, ◌<◌, ◌≤◌, true, List, [], ◌∷◌, ◌++◌, length, map, Ok, Err, Some, None, Option}
+use Rattle.lsp.specs.States.{InRange}
+use Rattle.law.specs.Arrivals.{Arrival, are_lawful, blank_arrival}
+use Rattle.law.specs.Sending.{Sent, arrival_sent}
+use Rattle.law.specs.Links.{Link, most_places, this_line, to_come}
+use Rattle.law.specs.Runs.{Call, CallMade, Send, Blank, Disturb, Take, RestartSender, RestartReceiver, New, Run, arrivals_taken, frames_sent, now}
+
+-- what every link keeps from a new one on
+pub record Kept (s : Link) : Type 0 where
+  -- no memory reaches 2^33 in size, and each end has ten
+  pub sender : InRange s.sender.memories × (length s.sender.memories ≡ 10)
+  pub receiver : InRange s.receiver.memories × (length s.receiver.memories ≡ 10)
+  pub seed : s.sender.seed < 65536
+  -- the line has at most 256 places, no more arrivals wait than it has, and these and those to come are lawful
+  pub places : s.line.places ≤ most_places
+  pub fits : length s.line.waiting ≤ s.line.places
+  pub waiting : are_lawful s.line.waiting ≡ true
+  pub supply : are_lawful (to_come s) ≡ true
+
+-- every run from a new link leads to such a link
+abbrev pub EveryLinkKeeps : Type 0
+EveryLinkKeeps = (s : Link) (h : List CallMade) → New s → Run s h → Kept (now s h)
+
+-- the arrival that a frame sent puts on the line
+abbrev pub arrival_of_frame : Option Sent → Arrival
+arrival_of_frame (Some f) = arrival_sent f
+arrival_of_frame None = blank_arrival
+
+-- a call that disturbs nothing
+abbrev pub DisturbsNothing : Call → Type 0
+DisturbsNothing (Send n p r) = Unit {0}
+DisturbsNothing (Blank r) = Unit {0}
+DisturbsNothing (Disturb n c bytes (Ok u)) = ⊥
+DisturbsNothing (Disturb n c bytes (Err e)) = Unit {0}
+DisturbsNothing (Take x) = Unit {0}
+DisturbsNothing RestartSender = Unit {0}
+DisturbsNothing RestartReceiver = Unit {0}
+
+-- no call of a history disturbs anything
+abbrev pub IsUndisturbed : List CallMade → Type 0
+IsUndisturbed [] = Unit {0}
+IsUndisturbed (m ∷ h) = DisturbsNothing m.call × IsUndisturbed h
+
+-- a link takes from its own line, on which nothing waited at first
+pub record StartsEmpty (s : Link) : Type 0 where
+  pub supply : s.supply ≡ this_line
+  pub waiting : s.line.waiting ≡ []
+
+-- what was taken and what waits are as many arrivals as frames were sent; if nothing was disturbed, they are those that were put
+-- on the line, in the order in which they were sent
+pub record LineDelivers (s : Link) (h : List CallMade) : Type 0 where
+  pub many : length (frames_sent h) ≡ length (arrivals_taken h) + length (now s h).line.waiting
+  pub undisturbed : IsUndisturbed h → map (λ f. arrival_of_frame f.what) (frames_sent h) ≡ map (λ g. g.what.arrival) (arrivals_taken h) ++ (now s h).line.waiting
+
+-- so it is after every run
+abbrev pub EveryLineDelivers : Type 0
+EveryLineDelivers = (s : Link) (h : List CallMade) → StartsEmpty s → Run s h → LineDelivers s h
