@@ -1,5 +1,5 @@
 -- What the rules of reading say of the packet of some codes with a bit changed: one of the 28, PCB[0], or both.
-use Rattle.std.proofs.Common.{◌≡◌, ◌≢◌, ℕ, suc, ◌+◌, ◌-◌, ◌*◌, ◌/◌, ◌%◌, ◌^◌, ◌<◌, Bool, true, false, not, ◌&&◌, ◌==◌, nat_lt, List, [], ◌∷◌, length, bit_xor, slice_index, Some, inl, inr, refl, sym, ap, subst, ◌∙◌, arith}
+use Rattle.std.proofs.Common.{◌≡◌, ◌≢◌, ℕ, ◌+◌, ◌-◌, ◌*◌, ◌/◌, ◌%◌, ◌^◌, ◌<◌, true, false, not, ◌==◌, List, length, bit_xor, slice_index, Some, inl, inr, refl, sym, ap, subst, ◌∙◌, arith}
 use Rattle.std.specs.Int.Bits.{xor_lt, xor_mod, xor_shr, xor_zero_r}
 use Rattle.std.proofs.lemmas.Bool.{cases_eq}
 use Rattle.std.proofs.lemmas.Bool.Decides.{nat_tests}
@@ -8,7 +8,6 @@ use Rattle.std.proofs.Math.Pow.{pow-lt}
 use Rattle.std.proofs.lemmas.Nat.{pow-add}
 use Rattle.service.specs.declared.rates.Rate.TheVariants.{Full as Rate1}
 use Rattle.service.specs.declared.categories.Category.TheVariants.{Full, Suspect}
-use Rattle.service.specs.Tests.{spare_bits_set, wrong_length}
 use Rattle.cyclic.specs.Polynomials.{rem}
 use Rattle.cyclic.specs.Words.{Corrects, RightCheckBits, cyclic_bits, parity, syndrome}
 use Rattle.cyclic.proofs.Changes.{cyclic_bits-corrected, ones_both, ones_pow}
@@ -28,8 +27,9 @@ use Rattle.packet.specs.CheckBits.{message_of, word_of}
 use Rattle.packet.specs.Codes.{Within, in_order}
 use Rattle.packet.proofs.Packets.{each_bit}
 use Rattle.packet.proofs.Trips.{guarded_word, unpacking_returns}
-use Rattle.law.specs.Arrivals.{are_bytes, is_lawful}
+use Rattle.law.specs.Arrivals.{is_lawful}
 use Rattle.law.specs.GuardedBits.{bit_of_power, with_place_changed, corrected_packet, with_bit_changed}
+use Rattle.law.proofs.Sent.{are_bytes_of, lawful_of}
 use Rattle.law.proofs.Changes.{change_elsewhere, guarded_small, one_bit_changed, word_changed, word_corrected}
 
 -- ---- any packet of 22 bytes
@@ -90,30 +90,11 @@ pub record Fine (xs : List ℕ) : Type 0 where
   pub spare : slice_index xs 21 % 2 ^ 5 ≡ 0
   pub bytes : (j : ℕ) → slice_index xs j < 256
 
-below_yes : (m n : ℕ) → m < n → nat_lt m n ≡ true
-below_yes m n h = grind (arith, nat_tests)
-
-equal_yes : (m n : ℕ) → m ≡ n → (m == n) ≡ true
-equal_yes m n e = grind (arith, nat_tests)
-
-and_yes : (x y : Bool) → x ≡ true → y ≡ true → (x && y) ≡ true
-and_yes x y e f = rw (e, f) refl
-
-bytes_yes : (xs : List ℕ) → ((j : ℕ) → j < length xs → slice_index xs j < 256) → are_bytes xs ≡ true
-unfolding are_bytes
-bytes_yes [] small = refl
-bytes_yes (x ∷ xs) small = and_yes (nat_lt x 256) (are_bytes xs) (below_yes x 256 (small 0 (omega arith))) (bytes_yes xs (λ j h. small (suc j) (omega arith)))
-
-twice_not : (x : Bool) → x ≡ true → not (not x) ≡ true
-twice_not x e = ap (λ y. not (not y)) e
+spare_unset : (n : ℕ) → n ≡ 0 → not (n == 0) ≡ false
+spare_unset n e = grind (arith, nat_tests)
 
 pub fine_full : (xs : List ℕ) → Fine xs → is_lawful (record { category = Full; bytes = xs }) ≡ true
-fine_full xs fine =
-    and_yes (not (wrong_length Full (length xs)) && not (spare_bits_set Full xs)) (are_bytes xs)
-    (and_yes (not (wrong_length Full (length xs))) (not (spare_bits_set Full xs))
-    (twice_not (length xs == 22) (equal_yes (length xs) 22 fine.size))
-    (twice_not (slice_index xs 21 % 2 ^ 5 == 0) (equal_yes (slice_index xs 21 % 2 ^ 5) 0 fine.spare)))
-    (bytes_yes xs (λ j _. fine.bytes j))
+fine_full xs fine = lawful_of Full xs fine.size (spare_unset (slice_index xs 21 % 2 ^ 5) fine.spare) (are_bytes_of xs fine.bytes)
 
 pub fine_suspect : (xs : List ℕ) → Fine xs → is_lawful (record { category = Suspect; bytes = xs }) ≡ true
 fine_suspect xs fine = fine_full xs fine

@@ -28,7 +28,7 @@ use Rattle.law.proofs.Changes.{changes_of_words, word_changed}
 use Rattle.law.proofs.Corrected.{both_changed_is_lawful, one_changed_fine, one_changed_is_lawful, pcb0_changed_is_lawful, sent_size}
 use Rattle.law.proofs.Exchanges.{after_codes, blank_step, disturb_step, link, lsp_codes, parameters, send_step, sends_within, sent, take_step, taken}
 use Rattle.law.proofs.Numbers.{append_nil}
-use Rattle.law.proofs.Rows.{Extends, Grows, Row, extends_further, extends_one, extends_same, newest, row_is, row_more, row_start, row_stays}
+use Rattle.law.proofs.Growth.{Extends, Grows, Row, extends_further, extends_one, extends_same, newest, row_is, row_more, row_start, row_stays}
 use Rattle.law.proofs.Silent.{reads_as_sent, reads_both_changed, reads_corrected, reads_pcb0_changed, silent, silent_reading}
 
 nothing_waits : are_lawful [] ≡ true

@@ -10,7 +10,7 @@ pub mod Timeline
 pub mod Agreement
 pub mod Silent
 pub mod Exchanges
-pub mod Rows
+pub mod Growth
 pub mod Example
 pub mod Marks
 pub mod Every

@@ -9,12 +9,22 @@ use Rattle.service.specs.declared.readings.RunEnd.TheVariants.{Wanted, RowsFull,
 use Rattle.law.specs.Arrivals.{Arrival}
 use Rattle.law.specs.Ends.{Receiver, Taken, TakesOne, new_receiver}
 use Rattle.law.specs.Links.{Line, Link, Supply, other_supply, line_left, link_after_take, supply_left, this_line, to_come, to_come_from}
-use Rattle.law.specs.Rows.{Ended, Row, RunAnswer, RunsTakes, StartsPage, TakesAll, row_of}
+use Rattle.law.specs.Rows.{Ended, Row, RunAnswer, RunState, RunsTakes, StartsPage, TakesAll, row_of}
 use Rattle.law.specs.Runs.{CallMade, Run, Step, Take, now}
-use Rattle.law.specs.Answers.{ChainOfTakesIsARun, ChainsOfTakesJoin, EachTakeIsACall, OneAnswerToEachRunOfTakes, OnePage, RunAnswered, SameRun, TakesAreCalls}
+use Rattle.law.specs.Answers.{ChainOfTakesIsARun, ChainsOfTakesJoin, EachTakeIsACall, OneAnswerToEachRunOfTakes, OnePage, TakesAreCalls}
 use Rattle.law.proofs.OneTake.{take_once, take_some, takes_on, to_come_after}
 
+abbrev state : Receiver → List Arrival → List Row → RunState
+state e supply rows = record { receiver = e; supply = supply; rows = rows }
+
 -- ---- a run has an answer
+
+record RunAnswered (wanted places : ℕ) (e : Receiver) (supply : List Arrival) (queue : List Row) : Type 0 where
+  answer : RunAnswer
+  receiver : Receiver
+  rest : List Arrival
+  rows : List Row
+  runs : RunsTakes wanted places (state e supply queue) answer (state receiver rest rows)
 
 -- nothing is taken, for one of the three reasons
 none_taken : (wanted places : ℕ) (e : Receiver) (supply : List Arrival) (queue : List Row) (end : RunEnd) → length queue ≤ places → Ended end wanted 0 places (length queue) supply
@@ -112,8 +122,8 @@ ended_not_more RowsFull wanted n m places queued more rest (k, e) l h g s = omeg
 ended_not_more SupplyEmpty wanted n m places queued more rest (k, u, e) l h g s = let z = ap length e in omega arith
 
 module _ (wanted places : ℕ) (e : Receiver) (supply : List Arrival) (queue : List Row) where
-  not_shorter : (a a' : RunAnswer) (d d' : Receiver) (rest rest' : List Arrival) (rows rows' : List Row) (r : RunsTakes wanted places e supply queue a d rest rows)
-      (q : RunsTakes wanted places e supply queue a' d' rest' rows') → length r.taken < length q.taken → ⊥
+  not_shorter : (a a' : RunAnswer) (d d' : Receiver) (rest rest' : List Arrival) (rows rows' : List Row) (r : RunsTakes wanted places (state e supply queue) a (state d rest rows))
+      (q : RunsTakes wanted places (state e supply queue) a' (state d' rest' rows')) → length r.taken < length q.taken → ⊥
   not_shorter a a' d d' rest rest' rows rows' r q less =
       let n = length r.taken in
       let m = length q.taken in
@@ -125,8 +135,8 @@ module _ (wanted places : ℕ) (e : Receiver) (supply : List Arrival) (queue : L
       let more = ended_not_more a.end wanted n m places (length rows) (m - n) rest r.ended q.wanted_at_most (omega arith) (omega arith) (omega arith) in
       omega arith
 
-  as_many : (a a' : RunAnswer) (d d' : Receiver) (rest rest' : List Arrival) (rows rows' : List Row) (r : RunsTakes wanted places e supply queue a d rest rows)
-      (q : RunsTakes wanted places e supply queue a' d' rest' rows') → length r.taken ≡ length q.taken
+  as_many : (a a' : RunAnswer) (d d' : Receiver) (rest rest' : List Arrival) (rows rows' : List Row) (r : RunsTakes wanted places (state e supply queue) a (state d rest rows))
+      (q : RunsTakes wanted places (state e supply queue) a' (state d' rest' rows')) → length r.taken ≡ length q.taken
   as_many a a' d d' rest rest' rows rows' r q = elim (cases_order (length r.taken) (length q.taken)) [
     | inl same ↦ same
     | inr (inl less) ↦ absurd (not_shorter a a' d d' rest rest' rows rows' r q less)
@@ -148,22 +158,25 @@ module _ (wanted places : ℕ) (e : Receiver) (supply : List Arrival) (queue : L
   abbrev answer_of : ℕ → RunEnd → RunAnswer
   answer_of rows end = record { rows = rows; end = end }
 
-  run_once : (a a' : RunAnswer) (d d' : Receiver) (rest rest' : List Arrival) (rows rows' : List Row) → RunsTakes wanted places e supply queue a d rest rows
-      → RunsTakes wanted places e supply queue a' d' rest' rows' → SameRun a a' d d' rest rest' rows rows'
+  run_once : (a a' : RunAnswer) (d d' : Receiver) (rest rest' : List Arrival) (rows rows' : List Row) → RunsTakes wanted places (state e supply queue) a (state d rest rows)
+      → RunsTakes wanted places (state e supply queue) a' (state d' rest' rows') → (a ≡ a') × (state d rest rows ≡ state d' rest' rows')
   run_once a a' d d' rest rest' rows rows' r q =
       let long = as_many a a' d d' rest rest' rows rows' r q in
       let same = takes_once e supply r.taken q.taken d d' rest rest' long r.takes q.takes in
       let queues : rows ≡ rows' = r.queued ∙ ap (λ xs. queue ++ map row_of xs) same.taken ∙ sym q.queued in
-      let end : a.end ≡ a'.end = end_once a.end a'.end (length r.taken) (length q.taken) (length rows) (length rows') rest rest' long (ap length queues) r.ended q.ended in
-      record {
-        answer = ap (λ n. answer_of n a.end) (r.counted ∙ long ∙ sym q.counted) ∙ ap (λ x. answer_of a'.rows x) end;
-        receiver = same.receiver;
-        supply = same.supply;
-        rows = queues;
-      }
+      let end : a.end ≡ a'.end = end_once a.end a'.end (length r.taken) (length q.taken) (length rows) (length rows') rest rest' long (ap length queues) r.ended q.ended in (
+        ap (λ n. answer_of n a.end) (r.counted ∙ long ∙ sym q.counted) ∙ ap (λ x. answer_of a'.rows x) end,
+        ap₂ (λ x y. state x y rows) same.receiver same.supply ∙ ap (state d' rest') queues,
+      )
 
 pub one_run : OneAnswerToEachRunOfTakes
-one_run = record { some = run_some; only = run_once }
+one_run = record {
+  some = λ wanted places s h.
+      let r = run_some wanted places s.receiver s.supply s.rows h in
+      (r.answer, state r.receiver r.rest r.rows, r.runs);
+  only = λ wanted places s t t' a a' r q.
+      run_once wanted places s.receiver s.supply s.rows a a' t.receiver t'.receiver t.supply t'.supply t.rows t'.rows r q;
+}
 
 -- ---- takes one after another are calls
 

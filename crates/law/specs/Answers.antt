@@ -9,7 +9,7 @@ use Rattle.law.specs.Readings.{Reading, Reads}
 use Rattle.law.specs.Ends.{Receiver, Taken, Takes}
 use Rattle.law.specs.Sending.{AreComplete, Parameters}
 use Rattle.law.specs.Links.{Link, link_after_take, to_come}
-use Rattle.law.specs.Rows.{PageRows, Row, RunAnswer, RunsTakes, StartsPage, TakesAll}
+use Rattle.law.specs.Rows.{PageRows, Row, RunAnswer, RunState, RunsTakes, StartsPage, TakesAll}
 use Rattle.law.specs.Runs.{Call, CallMade, Send, Blank, Disturb, Take, RestartSender, RestartReceiver, Run, Step, now}
 
 -- ---- readings
@@ -17,7 +17,9 @@ use Rattle.law.specs.Runs.{Call, CallMade, Send, Blank, Disturb, Take, RestartSe
 -- every arrival is read in one way, whatever its bytes; and something is read exactly if its letter says so
 pub record OneReadingOfEachArrival : Type 0 where
   pub some : (category : Category) (bytes : List ℕ) → (l : Letter) × (x : Option Reading) × Reads category bytes l x
-  pub only : (category : Category) (bytes : List ℕ) (l l' : Letter) (x x' : Option Reading) → Reads category bytes l x → Reads category bytes l' x' → (l ≡ l') × (x ≡ x')
+  pub only :
+      (category : Category) (bytes : List ℕ) (l l' : Letter) (x x' : Option Reading) → Reads category bytes l x → Reads category bytes l' x'
+      → (l ≡ l') × (x ≡ x')
   pub letter : (category : Category) (bytes : List ℕ) (l : Letter) (x : Option Reading) → Reads category bytes l x → is_some x ≡ is_read l
 
 -- ---- calls
@@ -82,7 +84,9 @@ pub record OneSessionOfCommands : Type 0 where
 
 -- a take of the receiver from what is to come to its link is a take call, and leaves the link with what is then to come
 abbrev pub EachTakeIsACall : Type 0
-EachTakeIsACall = (s : Link) (x : Option Taken) (e : Receiver) (rest : List Arrival) → Takes s.receiver (to_come s) x e rest → Step s (Take x) (link_after_take e rest s)
+EachTakeIsACall =
+    (s : Link) (x : Option Taken) (e : Receiver) (rest : List Arrival) → Takes s.receiver (to_come s) x e rest
+    → Step s (Take x) (link_after_take e rest s)
 
 -- a history of take calls alone, which took these, and its link
 pub record TakesAreCalls (s : Link) (xs : List Taken) (e : Receiver) (rest : List Arrival) : Type 0 where
@@ -93,33 +97,21 @@ pub record TakesAreCalls (s : Link) (xs : List Taken) (e : Receiver) (rest : Lis
 
 -- takes one after another are a run of take calls
 abbrev pub ChainOfTakesIsARun : Type 0
-ChainOfTakesIsARun = (s : Link) (xs : List Taken) (e : Receiver) (rest : List Arrival) → TakesAll s.receiver (to_come s) xs e rest → TakesAreCalls s xs e rest
+ChainOfTakesIsARun =
+    (s : Link) (xs : List Taken) (e : Receiver) (rest : List Arrival) → TakesAll s.receiver (to_come s) xs e rest → TakesAreCalls s xs e rest
 
 -- takes and then further takes are takes of both
 abbrev pub ChainsOfTakesJoin : Type 0
-ChainsOfTakesJoin = (e d c : Receiver) (supply list rest : List Arrival) (xs ys : List Taken) → TakesAll e supply xs d list → TakesAll d list ys c rest → TakesAll e supply (xs ++ ys) c rest
+ChainsOfTakesJoin =
+    (e d c : Receiver) (supply list rest : List Arrival) (xs ys : List Taken) → TakesAll e supply xs d list → TakesAll d list ys c rest
+    → TakesAll e supply (xs ++ ys) c rest
 
 -- ---- runs of takes, and pages
 
--- what a run of takes answers, with the receiver, the supply and the queue of rows after it
-pub record RunAnswered (wanted places : ℕ) (e : Receiver) (supply : List Arrival) (queue : List Row) : Type 0 where
-  pub answer : RunAnswer
-  pub receiver : Receiver
-  pub rest : List Arrival
-  pub rows : List Row
-  pub runs : RunsTakes wanted places e supply queue answer receiver rest rows
-
--- two outcomes of a run are the same
-pub record SameRun (a a' : RunAnswer) (e e' : Receiver) (rest rest' : List Arrival) (queue queue' : List Row) : Type 0 where
-  pub answer : a ≡ a'
-  pub receiver : e ≡ e'
-  pub supply : rest ≡ rest'
-  pub rows : queue ≡ queue'
-
--- a run that begins with a queue no longer than its places has an answer, and only one
+-- a run that begins with a queue no longer than its places has an answer, and only one, which leaves only one state
 pub record OneAnswerToEachRunOfTakes : Type 0 where
-  pub some : (wanted places : ℕ) (e : Receiver) (supply : List Arrival) (queue : List Row) → length queue ≤ places → RunAnswered wanted places e supply queue
-  pub only : (wanted places : ℕ) (e : Receiver) (supply : List Arrival) (queue : List Row) (a a' : RunAnswer) (d d' : Receiver) (rest rest' : List Arrival) (rows rows' : List Row) → RunsTakes wanted places e supply queue a d rest rows → RunsTakes wanted places e supply queue a' d' rest' rows' → SameRun a a' d d' rest rest' rows rows'
+  pub some : (wanted places : ℕ) (s : RunState) → length s.rows ≤ places → (a : RunAnswer) × (t : RunState) × RunsTakes wanted places s a t
+  pub only : (wanted places : ℕ) (s t t' : RunState) (a a' : RunAnswer) → RunsTakes wanted places s a t → RunsTakes wanted places s a' t' → (a ≡ a') × (t ≡ t')
 
 -- the page call has one answer, and leaves one receiver; and each supply has the rows of one page
 pub record OnePage : Type 0 where

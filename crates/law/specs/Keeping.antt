@@ -51,7 +51,8 @@ pub record StartsEmpty (s : Link) : Type 0 where
 -- on the line, in the order in which they were sent
 pub record LineDelivers (s : Link) (h : List CallMade) : Type 0 where
   pub many : length (frames_sent h) ≡ length (arrivals_taken h) + length (now s h).line.waiting
-  pub undisturbed : IsUndisturbed h → map (λ f. arrival_of_frame f.what) (frames_sent h) ≡ map (λ g. g.what.arrival) (arrivals_taken h) ++ (now s h).line.waiting
+  pub undisturbed :
+      IsUndisturbed h → map (λ f. arrival_of_frame f.what) (frames_sent h) ≡ map (λ g. g.what.arrival) (arrivals_taken h) ++ (now s h).line.waiting
 
 -- so it is after every run
 abbrev pub EveryLineDelivers : Type 0

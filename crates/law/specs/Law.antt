@@ -97,7 +97,9 @@ pub record Law (s : Link) (h : List CallMade) : Type 0 where
   pub sender_rounded : Rounded (events_at the_sender h) (now s h).sender.memories
   pub receiver_rounded : Rounded (events_at the_receiver h) (now s h).receiver.memories
   -- (c): the memories of each end are those right after its own last of the 256
-  pub agreement : (n j : ℕ) (f : Frame (Option Sent)) (g : Frame Taken) → InARow h n j → IsSent h (n + j) f → IsTaken h (n + j) g → Agree f.memories g.memories
+  pub agreement :
+      (n j : ℕ) (f : Frame (Option Sent)) (g : Frame Taken) → InARow h n j → IsSent h (n + j) f → IsTaken h (n + j) g
+      → Agree f.memories g.memories
 
 -- Every run from a new link keeps the law. It is proved of the rules of the calls, and as yet of no program.
 abbrev pub EveryRun : Type 0
@@ -115,4 +117,5 @@ EveryStepCarries = (t u : Link) (c : Call) → Step t c u → Carried t c u
 
 -- two runs, one after the other, are a run
 abbrev pub RunsJoin : Type 0
-RunsJoin = (s : Link) (h h' : List CallMade) → Run s h → Run (now s h) h' → Run s (h' ++ h) × (now s (h' ++ h) ≡ now (now s h) h')
+RunsJoin =
+    (s : Link) (h h' : List CallMade) → Run s h → Run (now s h) h' → Run s (h' ++ h) × (now s (h' ++ h) ≡ now (now s h) h')

@@ -45,15 +45,21 @@ Ended Wanted wanted n places queued rest = n ≡ wanted
 Ended RowsFull wanted n places queued rest = (n < wanted) × (queued ≡ places)
 Ended SupplyEmpty wanted n places queued rest = (n < wanted) × (queued < places) × (rest ≡ [])
 
--- a run of a receiver e that has this supply and a queue of rows with so many places: what it answers, and all three after it
-pub record RunsTakes (wanted places : ℕ) (e : Receiver) (supply : List Arrival) (queue : List Row) (a : RunAnswer) (e' : Receiver) (rest : List Arrival) (queue' : List Row) : Type 0 where
+-- what a run works on: a receiver, its supply, and the queue of rows
+pub record RunState : Type 0 where
+  pub receiver : Receiver
+  pub supply : List Arrival
+  pub rows : List Row
+
+-- a run from s, with a queue of so many places: what it answers, and the state after it
+pub record RunsTakes (wanted places : ℕ) (s : RunState) (a : RunAnswer) (t : RunState) : Type 0 where
   pub taken : List Taken
-  pub takes : TakesAll e supply taken e' rest
-  pub queued : queue' ≡ queue ++ map row_of taken
-  pub fits : length queue' ≤ places
+  pub takes : TakesAll s.receiver s.supply taken t.receiver t.supply
+  pub queued : t.rows ≡ s.rows ++ map row_of taken
+  pub fits : length t.rows ≤ places
   pub counted : a.rows ≡ length taken
   pub wanted_at_most : length taken ≤ wanted
-  pub ended : Ended a.end wanted (length taken) places (length queue') rest
+  pub ended : Ended a.end wanted (length taken) places (length t.rows) t.supply
 
 -- ---- a page
 
