@@ -6,7 +6,7 @@ use Rattle.law.specs.Ends.{Taken}
 use Rattle.law.specs.Sending.{Sent}
 use Rattle.law.specs.Links.{Line, Link, arrival_put, supply_left, this_line, to_come, to_come_from}
 use Rattle.law.specs.Runs.{Call, CallMade, Send, Blank, Disturb, Take, RestartSender, RestartReceiver, Frame, Role, frame, restarts, nothing, Run, Step, arrivals_taken, frame_of_role, frames_sent, now, receiver_role, restarts_at, sender_role, the_receiver, the_sender}
-use Rattle.law.specs.Keeping.{DisturbsNothing, EveryLineDelivers, IsUndisturbed, StartsEmpty, arrival_of_frame}
+use Rattle.law.specs.Keeping.{DisturbsNothing, OwnLineDelivers, IsUndisturbed, StartsEmpty, arrival_of_frame}
 use Rattle.law.proofs.Keeping.{set_length}
 use Rattle.law.proofs.Steps.{blank_refused}
 
@@ -129,8 +129,8 @@ module _ (s : Link) (empty : StartsEmpty s) where
       let takes = taken_by (receiver_role m.call) in
       omega (arith, ap length (sent_more m h) ∙ length-append (sent_list h) joins, ap length (taken_more m h) ∙ length-append (taken_list h) takes, before, more)
 
-pub every_line_delivers : EveryLineDelivers
-every_line_delivers s h empty r = record {
+pub own_line_delivers : OwnLineDelivers
+own_line_delivers s h empty r = record {
   many = sym (length-map (frames_sent h) _) ∙ delivered_many s empty h r ∙ ap (λ n. n + length (now s h).line.waiting) (length-map (arrivals_taken h) _);
   undisturbed = λ calm. delivered s empty h calm r;
 }

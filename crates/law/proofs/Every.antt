@@ -7,8 +7,8 @@ use Rattle.law.specs.Ends.{Taken}
 use Rattle.law.specs.Links.{Link}
 use Rattle.law.specs.Sending.{Sent}
 use Rattle.law.specs.Runs.{CallMade, New, Run, Step, now, events_at, the_receiver, the_sender}
-use Rattle.law.specs.Law.{EveryRun, EveryStepCarries, AtMostFourChanged, GuardedBitsHold, Law, RunsJoin}
-use Rattle.law.specs.Keeping.{EveryLinkKeeps, Kept}
+use Rattle.law.specs.Law.{EveryRun, EveryRunCarries, EveryStepCarries, AtMostFourChanged, GuardedBitsHold, Law, RunsJoin}
+use Rattle.law.specs.Keeping.{EveryRunKeeps, Kept}
 use Rattle.law.proofs.Agreement.{agree}
 use Rattle.law.proofs.Facts.{IsPacket, WasRead, packet_facts, sent_facts, taken_facts}
 use Rattle.law.proofs.Guarding.{guarded_bits_hold}
@@ -64,8 +64,8 @@ module _ (s : Link) (new : New s) (h : List CallMade) (r : Run s h) where
 pub every_run : EveryRun
 every_run s h new r = law s new h r
 
-pub every_link_keeps : EveryLinkKeeps
-every_link_keeps s h new r = kept s new h r
+pub every_run_keeps : EveryRunKeeps
+every_run_keeps s h new r = kept s new h r
 
 pub carried : EveryStepCarries
 carried t u c p = record {
@@ -82,3 +82,13 @@ now_join s h (m ∷ h') = refl
 pub join : RunsJoin
 join s h [] r r' = (r, refl)
 join s h (m ∷ h') r r' = ((subst (λ y. Step y m.call m.link) (sym (now_join s h h')) r'.0, (join s h h' r r'.1).0), refl)
+
+pub carried_over : EveryRunCarries
+carried_over t h r = record {
+  run = r;
+  link = refl;
+  goes_on = λ s g new q is.
+      let r' : Run (now s g) h = subst (λ l. Run l h) (sym is) r in
+      let whole = (join s g h q r').0 in
+      (whole, every_run s (h ++ g) new whole);
+}

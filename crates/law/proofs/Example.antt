@@ -1,9 +1,10 @@
 -- A run in which all that the law names occurs.
-use Rattle.std.proofs.Common.{◌≡◌, ℕ, zero, suc, ◌+◌, ◌/◌, ◌<◌, ◌≤◌, true, List, [], ◌∷◌, ◌++◌, get_or, slice_index, Some, None, Option, Ok, ℤ, pos, ◌+ℤ◌, ◌-ℤ◌, unsigned_abs, bit_xor, count_ones, refl, sym, ap, ap₂, ◌∙◌, subst, zero-add, inr, arith}
-use Rattle.std.specs.Int.Bits.{xor_assoc, xor_shr}
+use Rattle.std.proofs.Common.{◌≡◌, ℕ, zero, suc, ◌+◌, ◌/◌, ◌<◌, ◌≤◌, true, List, [], ◌∷◌, ◌++◌, get_or, slice_index, Some, None, Option, Ok, ℤ, pos, ◌+ℤ◌, ◌-ℤ◌, unsigned_abs, bit_xor, count_ones, refl, sym, ap, ap₂, ◌∙◌, subst, zero-add, ◌⊎◌, inl, inr, arith}
+use Rattle.std.specs.Int.Bits.{xor_assoc, xor_shr, xor_zero_r}
 use Rattle.std.proofs.lemmas.Int.{ints}
 use Rattle.service.specs.declared.rates.Rate.TheVariants.{Full as Rate1}
-use Rattle.service.specs.declared.categories.Category.TheVariants.{Blank as BlankFrame, Suspect}
+use Rattle.service.specs.declared.categories.Category.{Category}
+use Rattle.service.specs.declared.categories.Category.TheVariants.{Full, Suspect}
 use Rattle.service.specs.declared.readings.Letter.{Letter}
 use Rattle.service.specs.declared.readings.Letter.TheVariants.{B, C, P, S, D}
 use Rattle.lsp.specs.Decay.{decay}
@@ -16,14 +17,14 @@ use Rattle.packet_layout.specs.Guarded.{guarded_bits}
 use Rattle.packet.specs.Calls.{packet}
 use Rattle.packet.specs.CheckBits.{word_of}
 use Rattle.law.specs.GuardedBits.{changed_besides_pcb0, changed_guarded, corrected_packet, with_bit_changed}
-use Rattle.law.specs.Arrivals.{Arrival, are_lawful, is_lawful}
+use Rattle.law.specs.Arrivals.{are_lawful, blank_arrival, is_lawful}
 use Rattle.law.specs.Readings.{Reading, Reads, event_read, no_pitch, pitch_after}
 use Rattle.law.specs.Ends.{Taken}
 use Rattle.law.specs.Links.{Link}
 use Rattle.law.specs.Sending.{Sent, arrival_sent}
 use Rattle.law.specs.Runs.{Send, Blank, Disturb, Take, RestartReceiver, Frame, CallMade, Run, Step, arrivals_taken, now, restarts_at, the_receiver, the_sender}
 use Rattle.law.specs.Law.{IsSent, IsTaken}
-use Rattle.law.specs.Example.{ExampleRun, MemoriesApart, ReadAsSuspect, TakenAsBlank, TakenAsSuspect}
+use Rattle.law.specs.Example.{ArrivesChanged, ExampleRun, IsReadChanged, MemoriesApart, TakenAsBlank}
 use Rattle.law.proofs.Changes.{changes_of_words, word_changed}
 use Rattle.law.proofs.Corrected.{both_changed_is_lawful, one_changed_fine, one_changed_is_lawful, pcb0_changed_is_lawful, sent_size}
 use Rattle.law.proofs.Exchanges.{after_codes, blank_step, disturb_step, link, lsp_codes, parameters, send_step, sends_within, sent, take_step, taken}
@@ -83,9 +84,6 @@ suspect_at m r bytes l x h lawful reads pitch a = record {
 }
 
 -- a blank is sent and taken
-abbrev blank_arrival : Arrival
-blank_arrival = record { category = BlankFrame; bytes = [] }
-
 abbrev blanked : List ℤ → List ℤ → List CallMade → List CallMade
 blanked m r h =
     record { call = Take (Some (taken blank_arrival B None r)); link = link m r [] } ∷ record { call = Blank (Ok tt); link = link m r (blank_arrival ∷ []) } ∷ h
@@ -214,24 +212,29 @@ two_of_2049 : (count_ones 2049 ≡ 2) × (count_ones (2049 / 2) ≡ 1)
 unfolding lib.Count.ones
 two_of_2049 = (refl, refl)
 
--- frame n of h is the packet of memories m, taken as suspect with these bytes
-as_suspect : (h : List CallMade) (n : ℕ) (m r : List ℤ) (bytes : List ℕ) (l : Letter) (x : Option Reading) (f : Frame (Option Sent)) (g : Frame Taken) (d changed besides : ℕ)
-    → IsSent h n f → f.what ≡ Some (sent m) → IsTaken h n g → g.what ≡ taken (record { category = Suspect; bytes = bytes }) l x r
+none_of_0 : (count_ones 0 ≡ 0) × (count_ones (0 / 2) ≡ 0)
+unfolding lib.Count.ones
+none_of_0 = (refl, refl)
+
+-- frame n of h is the packet of memories m, taken in this category with these bytes
+arrives : (h : List CallMade) (n : ℕ) (m r : List ℤ) (category : Category) (bytes : List ℕ) (l : Letter) (x : Option Reading) (f : Frame (Option Sent)) (g : Frame Taken) (d changed besides : ℕ)
+    → (category ≡ Full) ⊎ (category ≡ Suspect)
+    → IsSent h n f → f.what ≡ Some (sent m) → IsTaken h n g → g.what ≡ taken (record { category = category; bytes = bytes }) l x r
     → word_of bytes ≡ bit_xor (word_of (packet Rate1 (silent (lsp_codes m)))) d → (count_ones d ≡ changed) × (count_ones (d / 2) ≡ besides) → changed ≤ 4
-    → TakenAsSuspect h n l changed besides
-as_suspect h n m r bytes l x f g d changed besides is_sent f_is is_taken g_is word ones few =
+    → ArrivesChanged h n category l changed besides
+arrives h n m r category bytes l x f g d changed besides one_of is_sent f_is is_taken g_is word ones few =
     let c = changes_of (packet Rate1 (silent (lsp_codes m))) bytes d word in
     record {
       sent = sent m;
-      taken = taken (record { category = Suspect; bytes = bytes }) l x r;
+      taken = taken (record { category = category; bytes = bytes }) l x r;
       few = record {
         frame = (f, is_sent, f_is);
         arrival = (g, is_taken, g_is);
         rate = refl;
-        category = inr refl;
+        category = one_of;
         few = omega (arith, c.0, ones.0, few);
       };
-      category = refl;
+      arrives = refl;
       letter = refl;
       guarded = c.0 ∙ ones.0;
       besides = c.1 ∙ ones.1;
@@ -399,12 +402,22 @@ module _ (m : List ℤ) (h : List CallMade) (at_start : At m fresh h) (row : Row
     taken = record { what = taken (arrival_sent (sent m)) C (Some (silent_reading (lsp_codes m))) fresh; memories = r2; era = restarts_at the_receiver h };
     is_sent = extends2.sent 2 _ (newest _ _ _ grows2.sent 2 (omega (arith, row.sent_length)));
     is_taken = extends2.taken 2 _ (newest _ _ _ grows2.taken 2 (omega (arith, row.taken_length)));
-    letter = refl;
     eras = (row.sender_now, row.receiver_now);
     lsp = 0;
     apart =
         apart (value_of Rate1 0 (slice_index (lsp_codes m) 0)) (decay (get_or m 0 (pos 0))) (decay (get_or fresh 0 (pos 0))) _ _
         (lsp_1 m (lsp_codes m)) (lsp_1 fresh (lsp_codes m)) decayed_apart;
+  }
+
+  read2 : IsReadChanged h259 2 Full C 0 0
+  unfolding m2 r2 arrives
+  read2 = record {
+    arrives =
+        arrives h259 2 m fresh Full (packet Rate1 (silent (lsp_codes m))) C (Some (silent_reading (lsp_codes m))) _ _ 0 0 0 (inl refl)
+        (extends2.sent 2 _ (newest _ _ _ grows2.sent 2 (omega (arith, row.sent_length)))) refl
+        (extends2.taken 2 _ (newest _ _ _ grows2.taken 2 (omega (arith, row.taken_length)))) refl
+        (sym (xor_zero_r (word_of (packet Rate1 (silent (lsp_codes m)))))) none_of_0 (omega arith);
+    codes = refl;
   }
 
   blank3 : TakenAsBlank h259 3
@@ -416,30 +429,30 @@ module _ (m : List ℤ) (h : List CallMade) (at_start : At m fresh h) (row : Row
     blank = (refl, refl);
   }
 
-  read4 : ReadAsSuspect h259 4 S 1 1
-  unfolding taken4 as_suspect
+  read4 : IsReadChanged h259 4 Suspect S 1 1
+  unfolding taken4 arrives
   read4 = record {
-    as_suspect =
-        as_suspect h259 4 m2 r2 (one_wrong m2) S (Some (silent_reading (lsp_codes m2))) _ _ 2048 1 1
+    arrives =
+        arrives h259 4 m2 r2 Suspect (one_wrong m2) S (Some (silent_reading (lsp_codes m2))) _ _ 2048 1 1 (inr refl)
         (extends4.sent 4 _ (newest _ _ _ grows4.sent 4 (omega (arith, row3.sent_length)))) refl
         (extends4.taken 4 _ (newest _ _ _ grows4.taken 4 (omega (arith, row3.taken_length)))) refl (word_one m2) one_of_2048 (omega arith);
     codes = refl;
   }
 
-  read5 : ReadAsSuspect h259 5 P 1 0
-  unfolding taken5 as_suspect
+  read5 : IsReadChanged h259 5 Suspect P 1 0
+  unfolding taken5 arrives
   read5 = record {
-    as_suspect =
-        as_suspect h259 5 m4 r4 (pcb0_wrong m4) P (Some (silent_reading (lsp_codes m4))) _ _ 1 1 0
+    arrives =
+        arrives h259 5 m4 r4 Suspect (pcb0_wrong m4) P (Some (silent_reading (lsp_codes m4))) _ _ 1 1 0 (inr refl)
         (extends5.sent 5 _ (newest _ _ _ grows5.sent 5 (omega (arith, row4.sent_length)))) refl
         (extends5.taken 5 _ (newest _ _ _ grows5.taken 5 (omega (arith, row4.taken_length)))) refl (word_pcb0 m4) one_of_1 (omega arith);
     codes = refl;
   }
 
-  erased259 : TakenAsSuspect h259 259 D 2 1
+  erased259 : ArrivesChanged h259 259 Suspect D 2 1
   unfolding taken259
   erased259 =
-      as_suspect h259 259 m258 r258 (two_wrong m258) D None _ _ 2049 2 1
+      arrives h259 259 m258 r258 Suspect (two_wrong m258) D None _ _ 2049 2 1 (inr refl)
       (newest _ _ _ grows259.sent 259 (omega (arith, row258.sent_length))) refl
       (newest _ _ _ grows259.taken 259 (omega (arith, row258.taken_length))) refl (word_two m258) two_of_2049 (omega arith)
 
@@ -452,6 +465,7 @@ module _ (m : List ℤ) (h : List CallMade) (at_start : At m fresh h) (row : Row
     run = run259;
     row = row_stays h258 h259 2 256 extends259 (row_is h258 1 256 0 1 row258);
     apart = apart2;
+    plain = read2;
     blank = blank3;
     corrected = read4;
     pcb0_wrong = read5;

@@ -1,6 +1,6 @@
 -- Every run of takes has one answer, and takes one after another are take calls.
-use Rattle.std.proofs.Common.{◌≡◌, ℕ, zero, suc, ◌+◌, ◌-◌, ◌<◌, ◌≤◌, List, [], ◌∷◌, ◌++◌, length, map, Some, refl, sym, ap, ap₂, subst, ◌∙◌, inl, inr, append_assoc, append-nil, arith, Bool, true, false, Ok, Err, Result, reverse}
-use Rattle.std.proofs.lemmas.Bool.{false≢true, cases_eq, cases_order}
+use Rattle.std.proofs.Common.{◌≡◌, ℕ, zero, suc, ◌+◌, ◌-◌, ◌<◌, ◌≤◌, List, [], ◌∷◌, ◌++◌, length, map, Some, refl, sym, ap, ap₂, subst, ◌∙◌, inl, inr, append_assoc, append-nil, arith, Ok, Err, Result, reverse, Option, None}
+use Rattle.std.proofs.lemmas.Bool.{cases_eq, cases_order}
 use Rattle.std.proofs.lemmas.List.{length-append, length-map, length_push, reverse-append}
 use Rattle.service.specs.declared.refusals.Refusal.{Refusal}
 use Rattle.service.specs.declared.refusals.Refusal.TheVariants.{UnlawfulReel}
@@ -10,7 +10,7 @@ use Rattle.law.specs.Arrivals.{Arrival}
 use Rattle.law.specs.Ends.{Receiver, Taken, TakesOne, new_receiver}
 use Rattle.law.specs.Links.{Line, Link, Supply, other_supply, line_left, link_after_take, supply_left, this_line, to_come, to_come_from}
 use Rattle.law.specs.Rows.{Ended, Row, RunAnswer, RunState, RunsTakes, StartsPage, TakesAll, row_of}
-use Rattle.law.specs.Runs.{CallMade, Run, Step, Take, now}
+use Rattle.law.specs.Runs.{CallMade, RestartReceiver, Run, Step, Take, now, with_receiver}
 use Rattle.law.specs.Answers.{ChainOfTakesIsARun, ChainsOfTakesJoin, EachTakeIsACall, OneAnswerToEachRunOfTakes, OnePage, TakesAreCalls}
 use Rattle.law.proofs.OneTake.{take_once, take_some, takes_on, to_come_after}
 
@@ -270,26 +270,32 @@ page_some e (a ∷ supply) =
     let (xs, d, more) = page_some b supply in
     (x ∷ xs, d, (b, supply, one, more))
 
-start_some : (lawful : Bool) (e : Receiver) → (r : Result Unit Refusal) × (d : Receiver) × StartsPage lawful e r d
-start_some true e = (Ok tt, new_receiver, (refl, refl))
-start_some false e = (Err UnlawfulReel, e, (refl, refl))
+start_some : (reel : Option (List Arrival)) (e : Receiver) → (r : Result (List Arrival) Refusal) × (d : Receiver) × StartsPage reel e r d
+start_some (Some list) e = (Ok list, new_receiver, (refl, refl))
+start_some None e = (Err UnlawfulReel, e, refl)
 
 -- what the page call does, by whether the reel is lawful
-start_is : (lawful : Bool) (e d : Receiver) (r : Result Unit Refusal) → StartsPage lawful e r d → (r ≡ (start_some lawful e).0) × (d ≡ (start_some lawful e).1)
+start_is : (reel : Option (List Arrival)) (e d : Receiver) (r : Result (List Arrival) Refusal) → StartsPage reel e r d → (r ≡ (start_some reel e).0) × (d ≡ (start_some reel e).1)
 unfolding start_some
-start_is true e d (Ok u) (is, new) = (refl, new)
-start_is false e d (Ok u) (is, new) = absurd (false≢true is)
-start_is true e d (Err UnlawfulReel) (is, kept) = absurd (false≢true (sym is))
-start_is false e d (Err UnlawfulReel) (is, kept) = (refl, kept)
-start_is lawful e d (Err r) none = absurd none
+start_is (Some list) e d (Ok supply) (is, new) = (ap Ok is, new)
+start_is (Some list) e d (Err r) none = absurd none
+start_is None e d (Ok supply) none = absurd none
+start_is None e d (Err UnlawfulReel) kept = (refl, kept)
+start_is None e d (Err r) none = absurd none
+
+start_restarts : (reel : Option (List Arrival)) (s : Link) (supply : List Arrival) (e : Receiver) → StartsPage reel s.receiver (Ok supply) e
+    → Step s RestartReceiver (with_receiver e s)
+start_restarts (Some list) s supply e (is, new) = ap (λ d. with_receiver d s) new
+start_restarts None s supply e none = absurd none
 
 pub one_page : OnePage
 one_page = record {
   start = start_some;
-  only_start = λ lawful e d d' r r' a b.
-      let p = start_is lawful e d r a in
-      let q = start_is lawful e d' r' b in
+  only_start = λ reel e d d' r r' a b.
+      let p = start_is reel e d r a in
+      let q = start_is reel e d' r' b in
       (p.0 ∙ sym q.0, p.1 ∙ sym q.1);
+  restarts = start_restarts;
   some = λ supply. let (xs, d, takes) = page_some new_receiver supply in (map row_of xs, (xs, d, takes, refl));
   only = λ supply rows rows' (xs, d, takes, is) (ys, d', takes', is').
       let l = takes_length new_receiver supply xs d [] takes in

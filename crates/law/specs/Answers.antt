@@ -1,5 +1,5 @@
 -- Every call has an answer on every input, and only one. Assumes nothing.
-use Rattle.std.specs.Prelude.{◌≡◌, ℕ, ◌≤◌, true, is_some, Bool, List, [], ◌∷◌, ◌++◌, length, map, reverse, Some, Option, Result}
+use Rattle.std.specs.Prelude.{◌≡◌, ℕ, ◌≤◌, true, is_some, List, [], ◌∷◌, ◌++◌, length, map, reverse, Ok, Some, Option, Result}
 use Rattle.service.specs.declared.categories.Category.{Category}
 use Rattle.service.specs.declared.readings.Letter.{Letter}
 use Rattle.service.specs.declared.refusals.Refusal.{Refusal}
@@ -10,7 +10,7 @@ use Rattle.law.specs.Ends.{Receiver, Taken, Takes}
 use Rattle.law.specs.Sending.{AreComplete, Parameters}
 use Rattle.law.specs.Links.{Link, link_after_take, to_come}
 use Rattle.law.specs.Rows.{PageRows, Row, RunAnswer, RunState, RunsTakes, StartsPage, TakesAll}
-use Rattle.law.specs.Runs.{Call, CallMade, Send, Blank, Disturb, Take, RestartSender, RestartReceiver, Run, Step, now}
+use Rattle.law.specs.Runs.{Call, CallMade, Send, Blank, Disturb, Take, RestartSender, RestartReceiver, Run, Step, now, with_receiver}
 
 -- ---- readings
 
@@ -113,9 +113,15 @@ pub record OneAnswerToEachRunOfTakes : Type 0 where
   pub some : (wanted places : ℕ) (s : RunState) → length s.rows ≤ places → (a : RunAnswer) × (t : RunState) × RunsTakes wanted places s a t
   pub only : (wanted places : ℕ) (s t t' : RunState) (a a' : RunAnswer) → RunsTakes wanted places s a t → RunsTakes wanted places s a' t' → (a ≡ a') × (t ≡ t')
 
--- the page call has one answer, and leaves one receiver; and each supply has the rows of one page
+-- The page call has one answer, and leaves one receiver; an accepted one is a restart of the receiver of any link that has it. And
+-- each supply has the rows of one page.
 pub record OnePage : Type 0 where
-  pub start : (lawful : Bool) (e : Receiver) → (r : Result Unit Refusal) × (d : Receiver) × StartsPage lawful e r d
-  pub only_start : (lawful : Bool) (e d d' : Receiver) (r r' : Result Unit Refusal) → StartsPage lawful e r d → StartsPage lawful e r' d' → (r ≡ r') × (d ≡ d')
+  pub start : (reel : Option (List Arrival)) (e : Receiver) → (r : Result (List Arrival) Refusal) × (d : Receiver) × StartsPage reel e r d
+  pub only_start :
+      (reel : Option (List Arrival)) (e d d' : Receiver) (r r' : Result (List Arrival) Refusal) → StartsPage reel e r d → StartsPage reel e r' d'
+      → (r ≡ r') × (d ≡ d')
+  pub restarts :
+      (reel : Option (List Arrival)) (s : Link) (supply : List Arrival) (e : Receiver) → StartsPage reel s.receiver (Ok supply) e
+      → Step s RestartReceiver (with_receiver e s)
   pub some : (supply : List Arrival) → (rows : List Row) × PageRows supply rows
   pub only : (supply : List Arrival) (rows rows' : List Row) → PageRows supply rows → PageRows supply rows' → rows ≡ rows'

@@ -27,8 +27,12 @@ unfoldable pub are_lawful : List Arrival → Bool
 are_lawful [] = true
 are_lawful (a ∷ list) = is_lawful a && are_lawful list
 
--- A supply is the list of the arrivals that are still to come, the first first. Told to hand one over, it gives the first and
--- leaves the others; of an empty list it gives none and leaves it as it is. Its count is the length of the list.
+-- A supply is the list of the arrivals that are still to come, the first first, and three facts about it are all that is used.
+-- Told to hand one over, it gives the first and leaves the others; of an empty list it gives none and leaves it as it is.
 abbrev pub HandsOver : List Arrival → Option Arrival → List Arrival → Type 0
 HandsOver supply (Some a) rest = supply ≡ a ∷ rest
 HandsOver supply None rest = (supply ≡ []) × (rest ≡ [])
+
+-- asked for its count, it answers the length of the list and leaves it as it is
+abbrev pub Counts : List Arrival → ℕ → List Arrival → Type 0
+Counts supply n rest = (n ≡ length supply) × (rest ≡ supply)

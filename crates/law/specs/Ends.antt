@@ -47,3 +47,8 @@ pub record TakesOne (e : Receiver) (supply : List Arrival) (x : Taken) (e' : Rec
 abbrev pub Takes : Receiver → List Arrival → Option Taken → Receiver → List Arrival → Type 0
 Takes e supply (Some x) e' rest = TakesOne e supply x e' rest
 Takes e supply None e' rest = HandsOver supply None rest × (e' ≡ e)
+
+-- the place that the caller of a take lends: afterwards it holds the arrival, with its bytes as they arrived; at none it is as it was
+abbrev pub place_after : Option Taken → Arrival → Arrival
+place_after (Some x) place = x.arrival
+place_after None place = place

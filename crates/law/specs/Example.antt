@@ -1,6 +1,7 @@
--- That the law speaks of something: a run in which all that it names occurs. Assumes nothing.
+-- That the law speaks of something: a run in which the premises of (a) and of (c) hold. Assumes nothing.
 use Rattle.std.specs.Prelude.{◌≡◌, ℕ, ◌<◌, List, ◌-ℤ◌, pos, None, Option, MatchOption, slice_index_or, unsigned_abs}
-use Rattle.service.specs.declared.categories.Category.TheVariants.{Suspect}
+use Rattle.service.specs.declared.categories.Category.{Category}
+use Rattle.service.specs.declared.categories.Category.TheVariants.{Full, Suspect}
 use Rattle.service.specs.declared.readings.Letter.{Letter}
 use Rattle.service.specs.declared.readings.Letter.TheVariants.{B, C, P, S, D}
 use Rattle.law.specs.GuardedBits.{changed_besides_pcb0, changed_guarded}
@@ -11,21 +12,21 @@ use Rattle.law.specs.Runs.{CallMade, Frame, New, Run}
 use Rattle.law.specs.Law.{AtMostFourChanged, InARow, IsSent, IsTaken}
 use Rattle.law.specs.Keeping.{StartsEmpty}
 
--- frame n is a packet at Rate 1 that was taken as suspect, with this letter, after so many of the 29 guarded bits changed on the
--- way, and so many besides PCB[0]
-pub record TakenAsSuspect (h : List CallMade) (n : ℕ) (l : Letter) (changed besides_pcb0 : ℕ) : Type 0 where
+-- frame n is a packet at Rate 1 that was taken in this category, with this letter, after so many of the 29 guarded bits changed on
+-- the way, and so many besides PCB[0]
+pub record ArrivesChanged (h : List CallMade) (n : ℕ) (category : Category) (l : Letter) (changed besides_pcb0 : ℕ) : Type 0 where
   pub sent : Sent
   pub taken : Taken
   pub few : AtMostFourChanged h n sent taken
-  pub category : taken.arrival.category ≡ Suspect
+  pub arrives : taken.arrival.category ≡ category
   pub letter : taken.letter ≡ l
   pub guarded : changed_guarded sent.bytes taken.arrival.bytes ≡ changed
   pub besides : changed_besides_pcb0 sent.bytes taken.arrival.bytes ≡ besides_pcb0
 
 -- and it was read with the codes that were sent
-pub record ReadAsSuspect (h : List CallMade) (n : ℕ) (l : Letter) (changed besides_pcb0 : ℕ) : Type 0 where
-  pub as_suspect : TakenAsSuspect h n l changed besides_pcb0
-  pub codes : MatchOption as_suspect.taken.reading ⊥ (λ r. r.codes ≡ as_suspect.sent.codes)
+pub record IsReadChanged (h : List CallMade) (n : ℕ) (category : Category) (l : Letter) (changed besides_pcb0 : ℕ) : Type 0 where
+  pub arrives : ArrivesChanged h n category l changed besides_pcb0
+  pub codes : MatchOption arrives.taken.reading ⊥ (λ r. r.codes ≡ arrives.sent.codes)
 
 -- frame n is a blank, taken as a blank
 pub record TakenAsBlank (h : List CallMade) (n : ℕ) : Type 0 where
@@ -35,22 +36,21 @@ pub record TakenAsBlank (h : List CallMade) (n : ℕ) : Type 0 where
   pub is_taken : IsTaken h n taken
   pub blank : (sent.what ≡ None) × (taken.what.letter ≡ B)
 
--- frame n is in these eras of the ends, and right after it was sent, and taken with letter C, the memories of some LSP are more
--- than ten grains apart
+-- frame n is in these eras of the ends, and right after it was sent, and taken, the memories of some LSP are more than ten grains
+-- apart
 pub record MemoriesApart (h : List CallMade) (n sender_era receiver_era : ℕ) : Type 0 where
   pub sent : Frame (Option Sent)
   pub taken : Frame Taken
   pub is_sent : IsSent h n sent
   pub is_taken : IsTaken h n taken
-  pub letter : taken.what.letter ≡ C
   pub eras : (sent.era ≡ sender_era) × (taken.era ≡ receiver_era)
   pub lsp : ℕ
   pub apart : 10 < unsigned_abs (slice_index_or sent.memories lsp (pos 0) -ℤ slice_index_or taken.memories lsp (pos 0))
 
--- A run of a new link that takes from its own line, on which nothing waits. Frame 1 is taken, and the receiver is restarted, so
--- that the memories are apart at frame 2. Frames 2 to 258 are 256 packets in a row, and frame 3, a blank. Frame 4 is a packet
--- of these of which one of the 28 bits is changed on the line and corrected, and frame 5 one whose PCB[0] is changed. Frame
--- 259 has two wrong bits, and is erased.
+-- A run of a new link that takes from its own line, on which nothing waits. The receiver is restarted once before it takes arrival
+-- 2, and the memories are apart there. Frames 2 to 258 are 256 packets in a row, and frame 3, a blank. Of these packets frame
+-- 2 arrives as it was sent; frame 4 with one of the 28 bits changed, and is corrected; frame 5 with PCB[0] changed, and is read.
+-- Frame 259 arrives with two wrong bits, and is erased.
 pub record ExampleRun : Type 0 where
   pub start : Link
   pub history : List CallMade
@@ -59,7 +59,8 @@ pub record ExampleRun : Type 0 where
   pub run : Run start history
   pub row : InARow history 2 256
   pub apart : MemoriesApart history 2 0 1
+  pub plain : IsReadChanged history 2 Full C 0 0
   pub blank : TakenAsBlank history 3
-  pub corrected : ReadAsSuspect history 4 S 1 1
-  pub pcb0_wrong : ReadAsSuspect history 5 P 1 0
-  pub erased : TakenAsSuspect history 259 D 2 1
+  pub corrected : IsReadChanged history 4 Suspect S 1 1
+  pub pcb0_wrong : IsReadChanged history 5 Suspect P 1 0
+  pub erased : ArrivesChanged history 259 Suspect D 2 1

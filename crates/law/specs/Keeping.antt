@@ -18,9 +18,9 @@ pub record Kept (s : Link) : Type 0 where
   pub waiting : are_lawful s.line.waiting ≡ true
   pub supply : are_lawful (to_come s) ≡ true
 
--- every run from a new link leads to such a link
-abbrev pub EveryLinkKeeps : Type 0
-EveryLinkKeeps = (s : Link) (h : List CallMade) → New s → Run s h → Kept (now s h)
+-- every run from a new link leads to a link that keeps this
+abbrev pub EveryRunKeeps : Type 0
+EveryRunKeeps = (s : Link) (h : List CallMade) → New s → Run s h → Kept (now s h)
 
 -- the arrival that a frame sent puts on the line
 abbrev pub arrival_of_frame : Option Sent → Arrival
@@ -55,5 +55,5 @@ pub record LineDelivers (s : Link) (h : List CallMade) : Type 0 where
       IsUndisturbed h → map (λ f. arrival_of_frame f.what) (frames_sent h) ≡ map (λ g. g.what.arrival) (arrivals_taken h) ++ (now s h).line.waiting
 
 -- so it is after every run
-abbrev pub EveryLineDelivers : Type 0
-EveryLineDelivers = (s : Link) (h : List CallMade) → StartsEmpty s → Run s h → LineDelivers s h
+abbrev pub OwnLineDelivers : Type 0
+OwnLineDelivers = (s : Link) (h : List CallMade) → StartsEmpty s → Run s h → LineDelivers s h

@@ -115,6 +115,16 @@ pub record Carried (t : Link) (c : Call) (u : Link) : Type 0 where
 abbrev pub EveryStepCarries : Type 0
 EveryStepCarries = (t u : Link) (c : Call) → Step t c u → Carried t c u
 
+-- the calls h took a link from t to u; so any run from a new link that led to t goes on to u, and the law holds of it
+pub record CarriedOver (t : Link) (h : List CallMade) (u : Link) : Type 0 where
+  pub run : Run t h
+  pub link : now t h ≡ u
+  pub goes_on : (s : Link) (g : List CallMade) → New s → Run s g → now s g ≡ t → Run s (h ++ g) × Law s (h ++ g)
+
+-- every run of calls carries each run on, and the law with it
+abbrev pub EveryRunCarries : Type 0
+EveryRunCarries = (t : Link) (h : List CallMade) → Run t h → CarriedOver t h (now t h)
+
 -- two runs, one after the other, are a run
 abbrev pub RunsJoin : Type 0
 RunsJoin =

@@ -1,5 +1,5 @@
 -- The rows of a page, a run of takes that queues them, and the page of a reel. Assumes nothing.
-use Rattle.std.specs.Prelude.{◌≡◌, ℕ, ◌<◌, ◌≤◌, Bool, true, false, List, [], ◌∷◌, ◌++◌, length, map, take, ℤ, Ok, Err, Some, None, Option, Result}
+use Rattle.std.specs.Prelude.{◌≡◌, ℕ, ◌<◌, ◌≤◌, List, [], ◌∷◌, ◌++◌, length, map, take, ℤ, Ok, Err, Some, None, Option, Result}
 use Rattle.service.specs.declared.readings.Letter.{Letter}
 use Rattle.service.specs.declared.readings.RunEnd.{RunEnd}
 use Rattle.service.specs.declared.readings.RunEnd.TheVariants.{Wanted, RowsFull, SupplyEmpty}
@@ -63,11 +63,14 @@ pub record RunsTakes (wanted places : ℕ) (s : RunState) (a : RunAnswer) (t : R
 
 -- ---- a page
 
--- what the page call answers for a reel that is lawful or not, and the receiver after it: restarted, or at refusal 18 as it was
-abbrev pub StartsPage : Bool → Receiver → Result Unit Refusal → Receiver → Type 0
-StartsPage lawful e (Ok u) e' = (lawful ≡ true) × (e' ≡ new_receiver)
-StartsPage lawful e (Err UnlawfulReel) e' = (lawful ≡ false) × (e' ≡ e)
-StartsPage lawful e (Err _) e' = ⊥
+-- what the page call answers for a reel of these arrivals, or for an unlawful one, which has none, and the receiver after it: it is
+-- restarted and these are to come, or at refusal 18 it is as it was
+abbrev pub StartsPage : Option (List Arrival) → Receiver → Result (List Arrival) Refusal → Receiver → Type 0
+StartsPage (Some list) e (Ok supply) e' = (supply ≡ list) × (e' ≡ new_receiver)
+StartsPage (Some list) e (Err _) e' = ⊥
+StartsPage None e (Ok supply) e' = ⊥
+StartsPage None e (Err UnlawfulReel) e' = e' ≡ e
+StartsPage None e (Err _) e' = ⊥
 
 -- the rows of the page of a reel whose arrivals these are: a restarted receiver takes them all
 abbrev pub PageRows : List Arrival → List Row → Type 0

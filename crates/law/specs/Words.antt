@@ -13,7 +13,7 @@ pub record OneBitChanged (packet : List ℕ) (n : ℕ) : Type 0 where
   pub others : (m : ℕ) → m < (rate_is Full).bits → m ≢ n → packet_bit m (with_bit_changed n packet) ≡ packet_bit m packet
   pub back : with_bit_changed n (with_bit_changed n packet) ≡ packet
 
--- the changes of two byte strings at the guarded bits are those of their words, and to correct a packet is to correct its word
+-- two byte strings differ in as many guarded bits as their words do, and to correct a packet is to correct its word
 pub record ChangesOfWords : Type 0 where
   pub guarded : (xs ys : List ℕ) → changed_guarded xs ys ≡ differing (word_of xs) (word_of ys)
   pub besides_pcb0 : (xs ys : List ℕ) → changed_besides_pcb0 xs ys ≡ differing (cyclic_bits (word_of xs)) (cyclic_bits (word_of ys))
