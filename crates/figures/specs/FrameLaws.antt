@@ -11,7 +11,7 @@ use Rattle.figures.specs.declared.codebook.CodebookParameter.{CodebookParameter}
 use Rattle.figures.specs.declared.pitch.PitchCodes.{PitchCodes}
 use Rattle.figures.specs.Codebook.{DecodesCodebooks, EncodesCodebooks, RefusesCodebooks, parameter_at}
 use Rattle.figures.specs.Laws.{figure_of_parameter}
-use Rattle.figures.specs.Pitch.{DecodesPitches, EncodesPitches, RefusesPitches, pair_at}
+use Rattle.figures.specs.Pitch.{DecodesPitches, EncodesPitches, RefusesPitches, no_pitch, pair_at}
 
 -- PLAG and PGAIN of each subframe are within the widths that a packet of this rate has for them
 pub record PitchCodesOfFrameFit (rate : Rate) (codes : PitchCodes) : Type 0 where
@@ -28,10 +28,10 @@ pub record EncodedCodesFit : Type 0 where
   pub pitch : (rate : Rate) (pairs : List (ℕ × ℕ)) (codes : PitchCodes) → EncodesPitches rate pairs codes → PitchCodesOfFrameFit rate codes
   pub codebook : (rate : Rate) (parameters : List CodebookParameter) (codes : CodebookCodes) → EncodesCodebooks rate parameters codes → CodebookCodesOfFrameFit rate codes
 
--- the pairs read are those sent in the subframes of the rate, and lag 16 and gain 0 past these
+-- the pairs read are those sent in the subframes of the rate, and there is no pitch past these
 pub record PairsReadAsSent (rate : Rate) (sent read : List (ℕ × ℕ)) : Type 0 where
   pub same : (i : ℕ) → i < (rate_is rate).pitch_subframes → pair_at read i ≡ pair_at sent i
-  pub past : (i : ℕ) → (rate_is rate).pitch_subframes ≤ i → i < 4 → pair_at read i ≡ (16, 0)
+  pub past : (i : ℕ) → (rate_is rate).pitch_subframes ≤ i → i < 4 → pair_at read i ≡ no_pitch
 
 -- the figures read are those of the parameters sent in the subframes of the rate, and past these are none
 pub record FiguresReadAsSent (rate : Rate) (sent : List CodebookParameter) (read : List (Option CodebookFigure)) : Type 0 where

@@ -7,9 +7,13 @@ use Rattle.service.specs.Refusals.{Answer}
 use Rattle.figures.specs.declared.pitch.PitchCodes.{PitchCodes}
 use Rattle.figures.specs.Subframes.{RefusedAtFirst}
 
--- the pair that PLAG and PGAIN stand for: lag 16 and gain 0 at PLAG 0, whatever PGAIN is
+-- no pitch: lag 16 and gain 0
+abbrev pub no_pitch : ℕ × ℕ
+no_pitch = (16, 0)
+
+-- the pair that PLAG and PGAIN stand for: no pitch at PLAG 0, whatever PGAIN is
 unfoldable pub pitch_of : ℕ → ℕ → ℕ × ℕ
-pitch_of plag pgain = if plag == 0 then (16, 0) else (plag + 16, pgain + 1)
+pitch_of plag pgain = if plag == 0 then no_pitch else (plag + 16, pgain + 1)
 
 -- a pair that codes can stand for: lag 16 at gain 0, and the lags 17 to 143 at the gains 1 to 8
 unfoldable pub pitch_allowed : ℕ × ℕ → Bool
@@ -32,13 +36,13 @@ pitch_codes_at codes i = (slice_index codes.plag i, slice_index codes.pgain i)
 abbrev pub pitch_at : PitchCodes → ℕ → ℕ × ℕ
 pitch_at codes i = pitch_of (slice_index codes.plag i) (slice_index codes.pgain i)
 
--- These are the four pairs of a frame's codes: each subframe of the rate is decoded, and past these are lag 16 and gain 0.
+-- These are the four pairs of a frame's codes: each subframe of the rate is decoded, and past these there is no pitch.
 pub record DecodesPitches (rate : Rate) (codes : PitchCodes) (pairs : List (ℕ × ℕ)) : Type 0 where
   pub plag_length : length codes.plag ≡ 4
   pub pgain_length : length codes.pgain ≡ 4
   pub pairs_length : length pairs ≡ 4
   pub decoded : (i : ℕ) → i < (rate_is rate).pitch_subframes → pair_at pairs i ≡ pitch_at codes i
-  pub past : (i : ℕ) → (rate_is rate).pitch_subframes ≤ i → i < 4 → pair_at pairs i ≡ (16, 0)
+  pub past : (i : ℕ) → (rate_is rate).pitch_subframes ≤ i → i < 4 → pair_at pairs i ≡ no_pitch
 
 -- These are the codes of a frame's four pairs: each subframe of the rate is encoded, and past these all codes are 0.
 pub record EncodesPitches (rate : Rate) (pairs : List (ℕ × ℕ)) (codes : PitchCodes) : Type 0 where

@@ -18,7 +18,8 @@ use Rattle.packet.specs.Calls.{packet}
 use Rattle.packet.specs.CheckBits.{word_of}
 use Rattle.law.specs.GuardedBits.{changed_besides_pcb0, changed_guarded, corrected_packet, with_bit_changed}
 use Rattle.law.specs.Arrivals.{are_lawful, blank_arrival, is_lawful}
-use Rattle.law.specs.Readings.{Reading, Reads, event_read, no_pitch, pitch_after}
+use Rattle.figures.specs.Pitch.{no_pitch}
+use Rattle.law.specs.Readings.{Reading, Reads, event_read, pitch_after}
 use Rattle.law.specs.Ends.{Taken}
 use Rattle.law.specs.Links.{Link}
 use Rattle.law.specs.Sending.{Sent, arrival_sent}

@@ -17,9 +17,9 @@ use Rattle.figures.specs.declared.codebook.CodebookParameter.{CodebookParameter}
 use Rattle.figures.specs.declared.codebook.Sign.TheVariants.{Plus}
 use Rattle.figures.specs.Codebook.{EncodesCodebooks, codebook_allowed, codebook_codes, parameter_at}
 use Rattle.figures.specs.Codebook as codebook
-use Rattle.figures.specs.Pitch.{pitch_allowed, pitch_codes}
+use Rattle.figures.specs.Pitch.{pitch_allowed, pitch_codes, no_pitch}
 use Rattle.law.specs.Arrivals.{Arrival, blank_arrival, is_lawful}
-use Rattle.law.specs.Readings.{Reading, Reads, event_read, no_pitch, pitch_after}
+use Rattle.law.specs.Readings.{Reading, Reads, event_read, pitch_after}
 use Rattle.law.specs.Ends.{Taken}
 use Rattle.law.specs.Sending.{Encodes, FrequenciesAllowed, Parameters, Sent, arrival_sent, drawn, frequency_allowed, offsets}
 use Rattle.law.specs.Links.{Link, this_line}

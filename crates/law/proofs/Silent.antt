@@ -14,9 +14,9 @@ use Rattle.packet.specs.Calls.{Holds, packet}
 use Rattle.packet.specs.Codes.{Within}
 use Rattle.figures.specs.declared.codebook.CodebookFigure.{CodebookFigure}
 use Rattle.figures.specs.Codebook.{DecodesCodebooks, figure_of_codes}
-use Rattle.figures.specs.Pitch.{DecodesPitches, pitch_of}
+use Rattle.figures.specs.Pitch.{DecodesPitches, pitch_of, no_pitch}
 use Rattle.law.specs.GuardedBits.{corrected_packet, with_bit_changed}
-use Rattle.law.specs.Readings.{Reading, Reads, ReadsCodes, codebook_codes_in, no_pitch, pitch_codes_in, pitch_off}
+use Rattle.law.specs.Readings.{Reading, Reads, ReadsCodes, codebook_codes_in, pitch_codes_in, pitch_off}
 use Rattle.law.proofs.Corrected.{both_changed_corrects_none, both_changed_syndrome, one_changed_corrects, one_changed_holds, pcb0_changed_holds, pcb0_changed_syndrome, sent_holds, sent_syndrome}
 use Rattle.law.proofs.Sent.{lsp_fits}
 

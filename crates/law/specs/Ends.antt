@@ -4,7 +4,8 @@ use Rattle.service.specs.declared.readings.Letter.{Letter}
 use Rattle.lsp.specs.Histories.{after}
 use Rattle.lsp.specs.States.{fresh, frequencies}
 use Rattle.law.specs.Arrivals.{Arrival, HandsOver}
-use Rattle.law.specs.Readings.{Reading, Reads, event_read, no_pitch, pitch_after}
+use Rattle.figures.specs.Pitch.{no_pitch}
+use Rattle.law.specs.Readings.{Reading, Reads, event_read, pitch_after}
 
 -- a receiver: ten LSP memories in grains, and the pitch pair of its last pitch subframe
 pub record Receiver : Type 0 where

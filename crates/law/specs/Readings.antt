@@ -16,7 +16,7 @@ use Rattle.packet.specs.CheckBits.{word_of}
 use Rattle.figures.specs.declared.codebook.CodebookCodes.{CodebookCodes}
 use Rattle.figures.specs.declared.codebook.CodebookFigure.{CodebookFigure}
 use Rattle.figures.specs.declared.pitch.PitchCodes.{PitchCodes}
-use Rattle.figures.specs.Pitch.{DecodesPitches, pair_at}
+use Rattle.figures.specs.Pitch.{DecodesPitches, no_pitch, pair_at}
 use Rattle.figures.specs.Codebook.{DecodesCodebooks}
 use Rattle.law.specs.GuardedBits.{corrected_packet}
 
@@ -36,11 +36,7 @@ pitch_codes_in c = record { plag = c.plag; pgain = c.pgain }
 abbrev pub codebook_codes_in : CodeNumbers → CodebookCodes
 codebook_codes_in c = record { cbindex = c.cbindex; cbgain = c.cbgain }
 
--- pitch off in a subframe: lag 16 and gain 0
-abbrev pub no_pitch : ℕ × ℕ
-no_pitch = (16, 0)
-
--- pitch off in each subframe of a frame
+-- pitch off: no pitch in any subframe of a frame
 abbrev pub pitch_off : List (ℕ × ℕ)
 pitch_off = replicate 4 no_pitch
 
