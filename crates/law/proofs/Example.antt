@@ -1,4 +1,4 @@
--- A run in which all that the law names occurs.
+-- A run in which the premises of the law hold.
 use Rattle.std.proofs.Common.{◌≡◌, ℕ, zero, suc, ◌+◌, ◌/◌, ◌<◌, ◌≤◌, true, List, [], ◌∷◌, ◌++◌, get_or, slice_index, Some, None, Option, Ok, ℤ, pos, ◌+ℤ◌, ◌-ℤ◌, unsigned_abs, bit_xor, count_ones, refl, sym, ap, ap₂, ◌∙◌, subst, zero-add, ◌⊎◌, inl, inr, arith}
 use Rattle.std.specs.Int.Bits.{xor_assoc, xor_shr, xor_zero_r}
 use Rattle.std.proofs.lemmas.Int.{ints}
