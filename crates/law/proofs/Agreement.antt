@@ -11,7 +11,7 @@ use Rattle.law.specs.Readings.{Reading, event_read, packet_read}
 use Rattle.law.specs.Ends.{Taken}
 use Rattle.law.specs.Sending.{Sent}
 use Rattle.law.specs.Runs.{Frame, CallMade, arrivals_taken, frames_sent, sent_event, taken_event}
-use Rattle.law.specs.Law.{InARow, FrameTakenAsSent, IsSent, IsTaken, TakenAsSent, numbered, one_if_packet, packet_count, one_if_packet_frame}
+use Rattle.law.specs.Law.{InARow, FrameLspTakenAsSent, IsSent, IsTaken, LspTakenAsSent, numbered, one_if_packet, packet_count, one_if_packet_frame}
 use Rattle.law.proofs.Timeline.{Spans, event_at, span}
 
 -- what is read as sent is the same to both ends
@@ -28,12 +28,12 @@ read_event f D o i h = absurd cc
 read_event f B o i h = absurd cc
 read_event f E o i h = absurd cc
 
-same_event : (w : Option Sent) (x : Taken) → TakenAsSent w x → sent_event w ≡ taken_event x
+same_event : (w : Option Sent) (x : Taken) → LspTakenAsSent w x → sent_event w ≡ taken_event x
 same_event (Some f) x (i, h) = read_event f x.letter x.reading i h
 same_event None x e = ap (λ l. event_read l x.reading) (sym e)
 
 module _ (h : List CallMade) (n : ℕ) where
-  same_spans : (j : ℕ) → ((i : ℕ) → i ≤ j → FrameTakenAsSent h (n + i)) → span sent_event (frames_sent h) n j ≡ span taken_event (arrivals_taken h) n j
+  same_spans : (j : ℕ) → ((i : ℕ) → i ≤ j → FrameLspTakenAsSent h (n + i)) → span sent_event (frames_sent h) n j ≡ span taken_event (arrivals_taken h) n j
   unfolding span event_at
   same_spans zero each =
       let p = each 0 (omega arith) in
@@ -69,13 +69,13 @@ module _ (h : List CallMade) (n : ℕ) where
 module _ (h : List CallMade) (m m' : List ℤ) (e e' : ℕ) (sender : Spans sent_event (frames_sent h) m e) (receiver : Spans taken_event (arrivals_taken h) m' e') where
   pub agree : (n j : ℕ) (f : Frame (Option Sent)) (g : Frame Taken) → InARow h n j → IsSent h (n + j) f → IsTaken h (n + j) g → Agree f.memories g.memories
   agree n j f g row is_sent is_taken =
-      let p = row.taken_as_sent 0 (omega arith) in
+      let p = row.lsp_taken_as_sent 0 (omega arith) in
       let q : n + 0 ≡ n = omega arith in
       let first_sent : IsSent h n p.sent = subst (λ k. IsSent h k p.sent) q p.is_sent in
       let first_taken : IsTaken h n p.taken = subst (λ k. IsTaken h k p.taken) q p.is_taken in
       let a = sender.between n j p.sent f first_sent is_sent (row.sender_era p.sent f first_sent is_sent) in
       let b = receiver.between n j p.taken g first_taken is_taken (row.receiver_era p.taken g first_taken is_taken) in
-      let same = same_spans h n j row.taken_as_sent in
+      let same = same_spans h n j row.lsp_taken_as_sent in
       let agreed = ends_agree a.before b.before (span sent_event (frames_sent h) n j) (span taken_event (arrivals_taken h) n j) a.lawful b.lawful
       (record { same = ap without_blanks same; many = span_packets h n (frames_sent h) j ∙ row.many }) in
       subst (λ k. Agree k g.memories) (sym a.is) (subst (λ k. Agree (after fresh (span sent_event (frames_sent h) n j ++ a.before)) k) (sym b.is) agreed)

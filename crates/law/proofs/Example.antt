@@ -25,7 +25,7 @@ use Rattle.law.specs.Links.{Link}
 use Rattle.law.specs.Sending.{Sent, arrival_sent}
 use Rattle.law.specs.Runs.{Send, Blank, Disturb, Take, RestartReceiver, Frame, CallMade, Run, Step, arrivals_taken, now, restarts_at, the_receiver, the_sender}
 use Rattle.law.specs.Law.{IsSent, IsTaken}
-use Rattle.law.specs.Example.{ArrivesChanged, ExampleRun, IsReadChanged, MemoriesApart, TakenAsBlank}
+use Rattle.law.specs.Example.{ArrivesWithChanges, ExampleRun, IsReadWithChanges, MemoriesApart, TakenAsBlank}
 use Rattle.law.proofs.Changes.{changes_of_words, word_changed}
 use Rattle.law.proofs.Corrected.{both_changed_is_lawful, one_changed_fine, one_changed_is_lawful, pcb0_changed_is_lawful, sent_size}
 use Rattle.law.proofs.Exchanges.{after_codes, blank_step, disturb_step, link, lsp_codes, parameters, send_step, sends_within, sent, take_step, taken}
@@ -222,7 +222,7 @@ arrives : (h : List CallMade) (n : ℕ) (m r : List ℤ) (category : Category) (
     → (category ≡ Full) ⊎ (category ≡ Suspect)
     → IsSent h n f → f.what ≡ Some (sent m) → IsTaken h n g → g.what ≡ taken (record { category = category; bytes = bytes }) l x r
     → word_of bytes ≡ bit_xor (word_of (packet Rate1 (silent (lsp_codes m)))) d → (count_ones d ≡ changed) × (count_ones (d / 2) ≡ besides) → changed ≤ 4
-    → ArrivesChanged h n category l changed besides
+    → ArrivesWithChanges h n category l changed besides
 arrives h n m r category bytes l x f g d changed besides one_of is_sent f_is is_taken g_is word ones few =
     let c = changes_of (packet Rate1 (silent (lsp_codes m))) bytes d word in
     record {
@@ -410,7 +410,7 @@ module _ (m : List ℤ) (h : List CallMade) (at_start : At m fresh h) (row : Row
         (lsp_1 m (lsp_codes m)) (lsp_1 fresh (lsp_codes m)) decayed_apart;
   }
 
-  read2 : IsReadChanged h259 2 Full C 0 0
+  read2 : IsReadWithChanges h259 2 Full C 0 0
   unfolding m2 r2 arrives
   read2 = record {
     arrives =
@@ -430,7 +430,7 @@ module _ (m : List ℤ) (h : List CallMade) (at_start : At m fresh h) (row : Row
     blank = (refl, refl);
   }
 
-  read4 : IsReadChanged h259 4 Suspect S 1 1
+  read4 : IsReadWithChanges h259 4 Suspect S 1 1
   unfolding taken4 arrives
   read4 = record {
     arrives =
@@ -440,7 +440,7 @@ module _ (m : List ℤ) (h : List CallMade) (at_start : At m fresh h) (row : Row
     codes = refl;
   }
 
-  read5 : IsReadChanged h259 5 Suspect P 1 0
+  read5 : IsReadWithChanges h259 5 Suspect P 1 0
   unfolding taken5 arrives
   read5 = record {
     arrives =
@@ -450,7 +450,7 @@ module _ (m : List ℤ) (h : List CallMade) (at_start : At m fresh h) (row : Row
     codes = refl;
   }
 
-  erased259 : ArrivesChanged h259 259 Suspect D 2 1
+  erased259 : ArrivesWithChanges h259 259 Suspect D 2 1
   unfolding taken259
   erased259 =
       arrives h259 259 m258 r258 Suspect (two_wrong m258) D None _ _ 2049 2 1 (inr refl)

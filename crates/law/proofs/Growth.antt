@@ -4,7 +4,7 @@ use Rattle.std.proofs.lemmas.Bool.{cases_lt}
 use Rattle.law.specs.Ends.{Taken}
 use Rattle.law.specs.Sending.{Sent}
 use Rattle.law.specs.Runs.{Frame, CallMade, arrivals_taken, frames_sent, restarts_at, the_receiver, the_sender}
-use Rattle.law.specs.Law.{InARow, FrameTakenAsSent, IsSent, IsTaken, TakenAsSent, numbered, one_if_packet, packet_count, one_if_packet_frame}
+use Rattle.law.specs.Law.{InARow, FrameLspTakenAsSent, IsSent, IsTaken, LspTakenAsSent, numbered, one_if_packet, packet_count, one_if_packet_frame}
 use Rattle.law.proofs.Numbers.{new_number, number_in, number_push, old_number, push_length, same_some}
 
 -- from h to h' each end has one frame more, and none was restarted
@@ -53,14 +53,14 @@ extends_one h h' w m x r g = record { sent = longer _ _ _ g.sent; taken = longer
 pub record Row (h : List CallMade) (before count many sender receiver : ℕ) : Type 0 where
   pub sent_length : length (frames_sent h) ≡ before + count
   pub taken_length : length (arrivals_taken h) ≡ before + count
-  pub each : (i : ℕ) → i < count → FrameTakenAsSent h (suc before + i)
+  pub each : (i : ℕ) → i < count → FrameLspTakenAsSent h (suc before + i)
   pub packets_are : packet_count (frames_sent h) (suc before) count ≡ many
   pub sender_eras : (n : ℕ) (f : Frame (Option Sent)) → before < n → IsSent h n f → f.era ≡ sender
   pub receiver_eras : (n : ℕ) (g : Frame Taken) → before < n → IsTaken h n g → g.era ≡ receiver
   pub sender_now : restarts_at the_sender h ≡ sender
   pub receiver_now : restarts_at the_receiver h ≡ receiver
 
-pub row_more : (h h' : List CallMade) (w : Option Sent) (m : List ℤ) (x : Taken) (r : List ℤ) (before count many sender receiver : ℕ) → Grows h h' w m x r → TakenAsSent w x
+pub row_more : (h h' : List CallMade) (w : Option Sent) (m : List ℤ) (x : Taken) (r : List ℤ) (before count many sender receiver : ℕ) → Grows h h' w m x r → LspTakenAsSent w x
     → Row h before count many sender receiver → Row h' before (suc count) (many + one_if_packet w) sender receiver
 row_more h h' w m x r before count many sender receiver g same row =
     let f : Frame (Option Sent) = record { what = w; memories = m; era = restarts_at the_sender h } in
@@ -103,7 +103,7 @@ row_start h before sender receiver long-s long-t s r = record {
 
 pub row_is : (h : List CallMade) (before j sender receiver : ℕ) → Row h before (suc j) 256 sender receiver → InARow h (suc before) j
 row_is h before j sender receiver row = record {
-  taken_as_sent = λ i l. row.each i (omega arith);
+  lsp_taken_as_sent = λ i l. row.each i (omega arith);
   many = row.packets_are;
   sender_era = λ f f' e e'. row.sender_eras (suc before) f (omega arith) e ∙ sym (row.sender_eras (suc before + j) f' (omega arith) e');
   receiver_era = λ g g' e e'. row.receiver_eras (suc before) g (omega arith) e ∙ sym (row.receiver_eras (suc before + j) g' (omega arith) e');
@@ -112,17 +112,17 @@ row_is h before j sender receiver row = record {
 -- it stays one as the run goes on
 pub row_stays : (h h' : List CallMade) (n j : ℕ) → Extends h h' → InARow h n j → InARow h' n j
 row_stays h h' n j e row = record {
-  taken_as_sent = λ i l. let p = row.taken_as_sent i l in record { sent = p.sent; taken = p.taken; is_sent = e.sent _ p.sent p.is_sent; is_taken = e.taken _ p.taken p.is_taken; same = p.same };
-  many = packets_same (frames_sent h') (frames_sent h) n (suc j) (λ k l. let p = row.taken_as_sent k (omega arith) in e.sent _ p.sent p.is_sent ∙ sym p.is_sent) ∙ row.many;
+  lsp_taken_as_sent = λ i l. let p = row.lsp_taken_as_sent i l in record { sent = p.sent; taken = p.taken; is_sent = e.sent _ p.sent p.is_sent; is_taken = e.taken _ p.taken p.is_taken; same = p.same };
+  many = packets_same (frames_sent h') (frames_sent h) n (suc j) (λ k l. let p = row.lsp_taken_as_sent k (omega arith) in e.sent _ p.sent p.is_sent ∙ sym p.is_sent) ∙ row.many;
   sender_era = λ f f' a b.
-      let p = row.taken_as_sent 0 (omega arith) in
-      let q = row.taken_as_sent j (omega arith) in
+      let p = row.lsp_taken_as_sent 0 (omega arith) in
+      let q = row.lsp_taken_as_sent j (omega arith) in
       let z : n + 0 ≡ n = omega arith in
       let first : IsSent h n p.sent = subst (λ k. IsSent h k p.sent) z p.is_sent in
       ap (λ g. g.era) (same_some (sym a ∙ e.sent n p.sent first)) ∙ row.sender_era p.sent q.sent first q.is_sent ∙ ap (λ g. g.era) (same_some (sym (e.sent (n + j) q.sent q.is_sent) ∙ b));
   receiver_era = λ f f' a b.
-      let p = row.taken_as_sent 0 (omega arith) in
-      let q = row.taken_as_sent j (omega arith) in
+      let p = row.lsp_taken_as_sent 0 (omega arith) in
+      let q = row.lsp_taken_as_sent j (omega arith) in
       let z : n + 0 ≡ n = omega arith in
       let first : IsTaken h n p.taken = subst (λ k. IsTaken h k p.taken) z p.is_taken in
       ap (λ g. g.era) (same_some (sym a ∙ e.taken n p.taken first)) ∙ row.receiver_era p.taken q.taken first q.is_taken ∙ ap (λ g. g.era) (same_some (sym (e.taken (n + j) q.taken q.is_taken) ∙ b));

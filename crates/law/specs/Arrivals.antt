@@ -18,7 +18,7 @@ unfoldable pub are_bytes : List ℕ → Bool
 are_bytes [] = true
 are_bytes (b ∷ bs) = nat_lt b 256 && are_bytes bs
 
--- an arrival is lawful if it passes the tests of its category's length and spare bits
+-- an arrival is lawful if it passes the tests of its category's length and spare bits, and its bytes are bytes
 abbrev pub is_lawful : Arrival → Bool
 is_lawful a = not (wrong_length a.category (length a.bytes)) && not (spare_bits_set a.category a.bytes) && are_bytes a.bytes
 

@@ -14,7 +14,7 @@ use Rattle.law.specs.Keeping.{StartsEmpty}
 
 -- frame n is a packet at Rate 1 that was taken in this category, with this letter, after so many of the 29 guarded bits changed on
 -- the way, and so many besides PCB[0]
-pub record ArrivesChanged (h : List CallMade) (n : ℕ) (category : Category) (l : Letter) (changed besides_pcb0 : ℕ) : Type 0 where
+pub record ArrivesWithChanges (h : List CallMade) (n : ℕ) (category : Category) (l : Letter) (changed besides_pcb0 : ℕ) : Type 0 where
   pub sent : Sent
   pub taken : Taken
   pub few : AtMostFourChanged h n sent taken
@@ -23,9 +23,9 @@ pub record ArrivesChanged (h : List CallMade) (n : ℕ) (category : Category) (l
   pub guarded : changed_guarded sent.bytes taken.arrival.bytes ≡ changed
   pub besides : changed_besides_pcb0 sent.bytes taken.arrival.bytes ≡ besides_pcb0
 
--- and it was read with the codes that were sent
-pub record IsReadChanged (h : List CallMade) (n : ℕ) (category : Category) (l : Letter) (changed besides_pcb0 : ℕ) : Type 0 where
-  pub arrives : ArrivesChanged h n category l changed besides_pcb0
+-- frame n is such a packet, and it was read with the codes that were sent
+pub record IsReadWithChanges (h : List CallMade) (n : ℕ) (category : Category) (l : Letter) (changed besides_pcb0 : ℕ) : Type 0 where
+  pub arrives : ArrivesWithChanges h n category l changed besides_pcb0
   pub codes : MatchOption arrives.taken.reading ⊥ (λ r. r.codes ≡ arrives.sent.codes)
 
 -- frame n is a blank, taken as a blank
@@ -59,8 +59,8 @@ pub record ExampleRun : Type 0 where
   pub run : Run start history
   pub row : InARow history 2 256
   pub apart : MemoriesApart history 2 0 1
-  pub plain : IsReadChanged history 2 Full C 0 0
+  pub plain : IsReadWithChanges history 2 Full C 0 0
   pub blank : TakenAsBlank history 3
-  pub corrected : IsReadChanged history 4 Suspect S 1 1
-  pub pcb0_wrong : IsReadChanged history 5 Suspect P 1 0
-  pub erased : ArrivesChanged history 259 Suspect D 2 1
+  pub corrected : IsReadWithChanges history 4 Suspect S 1 1
+  pub pcb0_wrong : IsReadWithChanges history 5 Suspect P 1 0
+  pub erased : ArrivesWithChanges history 259 Suspect D 2 1

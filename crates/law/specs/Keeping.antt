@@ -1,4 +1,4 @@
--- What every link keeps, and what its own line delivers. Assumes nothing.
+-- What every run from a new link keeps, and what a link's own line delivers. Assumes nothing.
 use Rattle.std.specs.Prelude.{◌≡◌, ◌+◌, ◌<◌, ◌≤◌, true, List, [], ◌∷◌, ◌++◌, length, map, Ok, Err, Some, None, Option}
 use Rattle.lsp.specs.States.{InRange}
 use Rattle.law.specs.Arrivals.{Arrival, are_lawful, blank_arrival}
@@ -6,7 +6,7 @@ use Rattle.law.specs.Sending.{Sent, arrival_sent}
 use Rattle.law.specs.Links.{Link, most_places, this_line, to_come}
 use Rattle.law.specs.Runs.{Call, CallMade, Send, Blank, Disturb, Take, RestartSender, RestartReceiver, New, Run, arrivals_taken, frames_sent, now}
 
--- what every link keeps from a new one on
+-- what is so of every link that a run from a new one leads to
 pub record Kept (s : Link) : Type 0 where
   -- no memory reaches 2^33 in size, and each end has ten
   pub sender : InRange s.sender.memories × (length s.sender.memories ≡ 10)

@@ -51,18 +51,18 @@ Rounded events m = (i : ℕ) → i < 10 → WithinRounding i events (slice_index
 
 -- ---- (c) agreement
 
--- a packet is taken as sent if it is read at its rate and with its LSP codes, and a blank if it is taken as a blank
-abbrev pub TakenAsSent : Option Sent → Taken → Type 0
-TakenAsSent (Some f) x = (is_read x.letter ≡ true) × MatchOption x.reading ⊥ (λ r. (r.rate ≡ f.rate) × (r.codes.lsp ≡ f.codes.lsp))
-TakenAsSent None x = x.letter ≡ B
+-- of a packet, that it was read at its rate and with its LSP codes, whatever its other codes; of a blank, that it was taken as one
+abbrev pub LspTakenAsSent : Option Sent → Taken → Type 0
+LspTakenAsSent (Some f) x = (is_read x.letter ≡ true) × MatchOption x.reading ⊥ (λ r. (r.rate ≡ f.rate) × (r.codes.lsp ≡ f.codes.lsp))
+LspTakenAsSent None x = x.letter ≡ B
 
--- frame n was sent, arrival n was taken, and the frame is taken as sent
-pub record FrameTakenAsSent (h : List CallMade) (n : ℕ) : Type 0 where
+-- frame n was sent, arrival n was taken, and it is so of these
+pub record FrameLspTakenAsSent (h : List CallMade) (n : ℕ) : Type 0 where
   pub sent : Frame (Option Sent)
   pub taken : Frame Taken
   pub is_sent : IsSent h n sent
   pub is_taken : IsTaken h n taken
-  pub same : TakenAsSent sent.what taken.what
+  pub same : LspTakenAsSent sent.what taken.what
 
 -- a packet counts, a blank does not
 abbrev pub one_if_packet : Option Sent → ℕ
@@ -79,10 +79,10 @@ abbrev pub packet_count : List (Frame (Option Sent)) → ℕ → ℕ → ℕ
 packet_count fs n zero = 0
 packet_count fs n (suc i) = packet_count fs n i + one_if_packet_frame (numbered fs (n + i))
 
--- 256 packets in a row: the packets among the frames of number n to n + j, all of which are taken as sent; and neither end was
--- restarted between its own first and last of these
+-- 256 packets in a row: the packets among the frames of number n to n + j, all of which were read at their rates and with their
+-- LSP codes, or taken as the blanks they are; and neither end was restarted between its own first and last of these
 pub record InARow (h : List CallMade) (n j : ℕ) : Type 0 where
-  pub taken_as_sent : (i : ℕ) → i ≤ j → FrameTakenAsSent h (n + i)
+  pub lsp_taken_as_sent : (i : ℕ) → i ≤ j → FrameLspTakenAsSent h (n + i)
   pub many : packet_count (frames_sent h) n (suc j) ≡ 256
   pub sender_era : (f f' : Frame (Option Sent)) → IsSent h n f → IsSent h (n + j) f' → f.era ≡ f'.era
   pub receiver_era : (g g' : Frame Taken) → IsTaken h n g → IsTaken h (n + j) g' → g.era ≡ g'.era

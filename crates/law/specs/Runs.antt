@@ -34,7 +34,8 @@ Step s (Take x) t = TakesFromSupply s x t
 Step s RestartSender t = t ≡ with_sender_and_line new_sender s.line s
 Step s RestartReceiver t = t ≡ with_receiver new_receiver s
 
--- a link is new if both ends are, whatever lawful arrivals wait on its line and are to come
+-- a link is new if both ends are, whatever lawful arrivals wait on its line and are to come; the line has at most 256 places, and
+-- no more arrivals wait than it has
 pub record New (s : Link) : Type 0 where
   pub sender : s.sender ≡ new_sender
   pub receiver : s.receiver ≡ new_receiver
