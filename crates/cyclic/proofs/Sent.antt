@@ -1,4 +1,4 @@
--- The words that are sent are exactly those whose check bits are right. Assumes nothing.
+-- The words that are sent are exactly those whose check bits are right.
 use Rattle.std.proofs.Common.{◌≡◌, ℕ, ◌+◌, ◌*◌, ◌/◌, ◌%◌, ◌^◌, ◌<◌, sym, ap, ◌∙◌, arith}
 use lib.Bits.{bit_xor, xor_shifted}
 use lib.Count.{ones, ones_step}

@@ -1,4 +1,4 @@
--- Whether a number of 32 bits has one from bit n up, as `unbounded_shr` by n tells. Assumes nothing.
+-- Whether a number of 32 bits has one from bit n up, as `unbounded_shr` by n tells.
 use Rattle.std.proofs.Common.{◌≡◌, ℕ, ◌/◌, ◌^◌, ◌<◌, ◌≤◌, ◌≢◌, if◌then◌else◌, nat_lt, inl, inr, arith, pow_pos, pow_mono}
 use native.Mathlib.Nat.{div-eq_of_lt, lt-div-mul-add}
 use Rattle.std.proofs.lemmas.Bool.{cases_lt}

@@ -1,5 +1,5 @@
 -- Polynomials over GF(2) as numbers: bit p of a number is the coefficient of x^p. A sum is the exclusive-or, and
--- times x is times 2. Assumes nothing.
+-- times x is times 2.
 use Rattle.std.specs.Prelude.{◌≡◌, ℕ, zero, suc, ◌+◌, ◌*◌, ◌/◌, ◌%◌, ◌^◌, ◌<◌, Bool, cond, List, [], ◌∷◌, bit_xor}
 
 -- g = x^10 + x^9 + x^8 + x^6 + x^5 + x^3 + 1
@@ -23,7 +23,8 @@ reduced p = bit_xor p (p / 1024 % 2 * generator)
 abbrev pub shift_in : ℕ → ℕ → ℕ
 shift_in r b = reduced (r * 2 + b)
 
--- the remainder by g, the coefficients shifted in from the highest power down; the first number only bounds the recursion
+-- the remainder by g, the coefficients shifted in from the highest power down; the first number only bounds the
+-- recursion
 unfoldable pub rem_in : ℕ → ℕ → ℕ
 rem_in zero p = 0
 rem_in (suc d) zero = 0

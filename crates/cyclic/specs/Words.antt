@@ -1,6 +1,6 @@
 -- The 29 guarded bits of a Rate 1 packet as one number, a word: the 18 guarded code bits, a(x), from bit 11 up, the ten
 -- check bits PCB[10] to PCB[1] at bits 10 to 1, not inverted, and the overall parity bit PCB[0] at bit 0.
--- Assumes nothing.
+--
 use Rattle.std.specs.Prelude.{◌≡◌, ℕ, ◌+◌, ◌*◌, ◌/◌, ◌%◌, ◌^◌, ◌<◌, ◌⊎◌, Some, None, Option, ◌≢◌, bit_xor, count_ones}
 use Rattle.cyclic.specs.Polynomials.{rem}
 
@@ -57,8 +57,8 @@ abbrev pub PlainRule : ℕ → Option ℕ → Type 0
 PlainRule w (Some a) = (syndrome w ≡ 0) × (a ≡ message w)
 PlainRule w None = syndrome w ≢ 0
 
--- As a suspect packet: read as it is if the syndrome is 0; read with its place corrected if there is one to correct; else
--- nothing.
+-- As a suspect packet: read as it is if the syndrome is 0; read with its place corrected if there is one to correct;
+-- else nothing.
 abbrev pub SuspectRule : ℕ → Option ℕ → Type 0
 SuspectRule w (Some a) =
     ((syndrome w ≡ 0) × (a ≡ message w)) ⊎ ((p : ℕ) × Corrects w p × (a ≡ message (corrected w p)))

@@ -15,7 +15,7 @@ use Rattle.figures.specs.declared.codebook.CodebookCodes.{CodebookCodes}
 use Rattle.figures.specs.declared.codebook.CodebookFigure.{CodebookFigure}
 use Rattle.figures.specs.declared.codebook.CodebookParameter.{CodebookParameter}
 use Rattle.figures.specs.declared.pitch.PitchCodes.{PitchCodes}
-use Rattle.figures.specs.Subframes.{FirstToFail, RefusedAtFirst}
+use Rattle.service.specs.FirstToFail.{FirstToFail, RefusedAtFirst}
 use Rattle.figures.specs.Pitch.{DecodesPitches, EncodesPitches, pair_at, pitch_allowed, pitch_of}
 use Rattle.figures.specs.Codebook.{DecodesCodebooks, EncodesCodebooks, codebook_allowed, figure_of_codes, parameter_at}
 use Rattle.figures.specs.Laws.{CodebookDecoded, PitchDecoded}

@@ -1,6 +1,8 @@
--- The sign, the codebook index and the increment of the codebook gain of a subframe (IS-96, A.1.4.6). What is unfoldable is
--- opaque: a proof sees behind its name only if it says so. Assumes nothing.
-use Rattle.std.specs.Prelude.{◌≡◌, ℕ, ◌+◌, ◌%◌, ◌<◌, ◌≤◌, Bool, true, false, if◌then◌else◌, not, ◌&&◌, ◌||◌, nat_le, List, [], ◌∷◌, length, Some, None, Option, ℤ, pos, negsuc, ◌-ℤ◌, is_some, unwrap_or, slice_index, slice_index_or, position, unsigned_abs}
+-- The sign, the codebook index and the increment of the codebook gain of a subframe (IS-96, A.1.4.6). What is
+-- unfoldable is opaque: a proof sees behind its name only if it says so.
+use Rattle.std.specs.Prelude.{◌≡◌, ℕ, ◌+◌, ◌%◌, ◌<◌, ◌≤◌, Bool, true, false, if◌then◌else◌, not, ◌&&◌, ◌||◌, nat_le}
+use Rattle.std.specs.Prelude.{List, [], ◌∷◌, length, Some, None, Option, ℤ, pos, negsuc, ◌-ℤ◌, is_some, unwrap_or}
+use Rattle.std.specs.Prelude.{slice_index, slice_index_or, position, unsigned_abs}
 use Rattle.std.specs.Ordering.{int_eq}
 use Rattle.std.specs.Int.{int_rem_euclid}
 use Rattle.service.specs.declared.rates.Rate.{Rate}
@@ -12,7 +14,7 @@ use Rattle.figures.specs.declared.codebook.Sign.TheVariants.{Plus, Minus}
 use Rattle.figures.specs.declared.codebook.CodebookFigure.{CodebookFigure}
 use Rattle.figures.specs.declared.codebook.CodebookParameter.{CodebookParameter}
 use Rattle.figures.specs.declared.codebook.CodebookCodes.{CodebookCodes}
-use Rattle.figures.specs.Subframes.{RefusedAtFirst}
+use Rattle.service.specs.FirstToFail.{RefusedAtFirst}
 
 -- the increments, in decibels, that the numbers 0 to 3 stand for; negsuc 3 is -4, and negsuc 1 is -2
 abbrev pub increments : Rate → List ℤ
@@ -53,8 +55,11 @@ index_of Minus cbindex = unsigned_abs (int_rem_euclid (pos cbindex -ℤ pos (sig
 
 -- what CBINDEX and CBGAIN stand for
 unfoldable pub figure_of_codes : Rate → ℕ → ℕ → CodebookFigure
-figure_of_codes rate cbindex cbgain =
-    record { sign = sign_of rate cbgain; index = if sends_index_and_sign rate then Some (index_of (sign_of rate cbgain) cbindex) else None; increment = increment_of rate cbgain }
+figure_of_codes rate cbindex cbgain = record {
+  sign = sign_of rate cbgain;
+  index = if sends_index_and_sign rate then Some (index_of (sign_of rate cbgain) cbindex) else None;
+  increment = increment_of rate cbgain;
+}
 
 -- the number of an increment, if it is one of the rate's four
 unfoldable pub increment_number : Rate → ℤ → Option ℕ
@@ -74,7 +79,8 @@ unfoldable pub codebook_allowed : Rate → CodebookParameter → Bool
 codebook_allowed rate p =
     sign_allowed rate p.sign && index_allowed rate p.index && is_some (increment_number rate p.increment)
 
--- the code of an index, at a rate that sends it: the index itself if the sign is plus, and (index + 89) modulo 128 if it is minus
+-- the code of an index, at a rate that sends it: the index itself if the sign is plus, and (index + 89) modulo 128 if
+-- it is minus
 abbrev pub shifted : Sign → ℕ → ℕ
 shifted Plus index = index
 shifted Minus index = (index + (sign_is Minus).above_index) % 128
@@ -105,20 +111,26 @@ abbrev pub codebook_at : Rate → CodebookCodes → ℕ → CodebookFigure
 codebook_at rate codes i = figure_of_codes rate (slice_index codes.cbindex i) (slice_index codes.cbgain i)
 
 -- These are the eight figures of a frame's codes: each subframe of the rate is decoded, and past these are none.
-pub record DecodesCodebooks (rate : Rate) (codes : CodebookCodes) (figures : List (Option CodebookFigure)) : Type 0 where
+pub record DecodesCodebooks (rate : Rate) (codes : CodebookCodes)
+    (figures : List (Option CodebookFigure)) : Type 0 where
   pub cbindex_length : length codes.cbindex ≡ 8
   pub cbgain_length : length codes.cbgain ≡ 8
   pub figures_length : length figures ≡ 8
-  pub decoded : (i : ℕ) → i < (rate_is rate).codebook_subframes → slice_index_or figures i None ≡ Some (codebook_at rate codes i)
+  pub decoded :
+      (i : ℕ) → i < (rate_is rate).codebook_subframes → slice_index_or figures i None ≡ Some (codebook_at rate codes i)
   pub past : (i : ℕ) → (rate_is rate).codebook_subframes ≤ i → i < 8 → slice_index_or figures i None ≡ None
 
--- These are the codes of a frame's eight parameters: each subframe of the rate is encoded, and past these all codes are 0.
+-- These are the codes of a frame's eight parameters: each subframe of the rate is encoded, and past these all codes are
+-- 0.
 pub record EncodesCodebooks (rate : Rate) (parameters : List CodebookParameter) (codes : CodebookCodes) : Type 0 where
   pub parameters_length : length parameters ≡ 8
   pub cbindex_length : length codes.cbindex ≡ 8
   pub cbgain_length : length codes.cbgain ≡ 8
-  pub allowed : (i : ℕ) → i < (rate_is rate).codebook_subframes → codebook_allowed rate (parameter_at parameters i) ≡ true
-  pub encoded : (i : ℕ) → i < (rate_is rate).codebook_subframes → codebook_codes_at codes i ≡ codebook_codes rate (parameter_at parameters i)
+  pub allowed :
+      (i : ℕ) → i < (rate_is rate).codebook_subframes → codebook_allowed rate (parameter_at parameters i) ≡ true
+  pub encoded :
+      (i : ℕ) → i < (rate_is rate).codebook_subframes
+      → codebook_codes_at codes i ≡ codebook_codes rate (parameter_at parameters i)
   pub past : (i : ℕ) → (rate_is rate).codebook_subframes ≤ i → i < 8 → codebook_codes_at codes i ≡ (0, 0)
 
 -- refusal 12 of the first subframe of the rate whose parameter no codes can stand for

@@ -1,4 +1,4 @@
--- Of one subframe: decoding gives what was encoded, and encoding gives what was decoded. Assumes nothing.
+-- Of one subframe: decoding gives what was encoded, and encoding gives what was decoded.
 use Rattle.std.specs.Prelude.{◌≡◌, ℕ, ◌^◌, ◌<◌, true, if◌then◌else◌, ◌==◌, Some, None}
 use Rattle.service.specs.declared.rates.Rate.{Rate}
 use Rattle.service.specs.declared.rates.Rate.TheVariants.{Full}
@@ -19,7 +19,8 @@ pub record PitchDecoded (pair : ℕ × ℕ) : Type 0 where
   pub fit : PitchCodesFit (pitch_codes pair).0 (pitch_codes pair).1
   pub same : pitch_of (pitch_codes pair).0 (pitch_codes pair).1 ≡ pair
 
--- codes that fit are decoded to an allowed pair, and encoding it gives the same codes, but that PGAIN becomes 0 if PLAG is 0
+-- codes that fit are decoded to an allowed pair, and encoding it gives the same codes, but that PGAIN becomes 0 if PLAG
+-- is 0
 pub record PitchEncoded (plag pgain : ℕ) : Type 0 where
   pub allowed : pitch_allowed (pitch_of plag pgain) ≡ true
   pub same : pitch_codes (pitch_of plag pgain) ≡ (plag, if plag == 0 then 0 else pgain)
@@ -29,15 +30,19 @@ pub record PitchRoundTrips : Type 0 where
   pub decoded : (pair : ℕ × ℕ) → pitch_allowed pair ≡ true → PitchDecoded pair
   pub encoded : (plag pgain : ℕ) → PitchCodesFit plag pgain → PitchEncoded plag pgain
 
--- codes that fit the bits which a packet of this rate has for those of its first subframe: none for CBINDEX at Rate 1/8, where it
--- is thus 0
+-- codes that fit the bits which a packet of this rate has for those of its first subframe: none for CBINDEX at Rate
+-- 1/8, where it is thus 0
 pub record CodebookCodesFit (rate : Rate) (cbindex cbgain : ℕ) : Type 0 where
   pub cbindex_bits : cbindex < 2 ^ bits_at rate Cbindex 0
   pub cbgain_bits : cbgain < 2 ^ bits_at rate Cbgain 0
 
 -- a parameter as it is to be decoded: with its index if the rate has one
 abbrev pub figure_of_parameter : Rate → CodebookParameter → CodebookFigure
-figure_of_parameter rate p = record { sign = p.sign; index = if sends_index_and_sign rate then Some p.index else None; increment = p.increment }
+figure_of_parameter rate p = record {
+  sign = p.sign;
+  index = if sends_index_and_sign rate then Some p.index else None;
+  increment = p.increment;
+}
 
 -- an allowed parameter is encoded to codes that fit, and decoding them gives the parameter
 pub record CodebookDecoded (rate : Rate) (p : CodebookParameter) : Type 0 where
@@ -52,4 +57,6 @@ pub record CodebookEncoded (rate : Rate) (cbindex cbgain : ℕ) (p : CodebookPar
 -- the codebook parameter, both ways, at each rate
 pub record CodebookRoundTrips : Type 0 where
   pub decoded : (rate : Rate) (p : CodebookParameter) → codebook_allowed rate p ≡ true → CodebookDecoded rate p
-  pub encoded : (rate : Rate) (cbindex cbgain : ℕ) → CodebookCodesFit rate cbindex cbgain → (p : CodebookParameter) → figure_of_parameter rate p ≡ figure_of_codes rate cbindex cbgain → CodebookEncoded rate cbindex cbgain p
+  pub encoded :
+      (rate : Rate) (cbindex cbgain : ℕ) → CodebookCodesFit rate cbindex cbgain → (p : CodebookParameter)
+      → figure_of_parameter rate p ≡ figure_of_codes rate cbindex cbgain → CodebookEncoded rate cbindex cbgain p

@@ -1,4 +1,3 @@
-pub mod Subframes
 pub mod Pitch
 pub mod Codebook
 pub mod Laws

@@ -1,11 +1,12 @@
--- The pitch lag and the pitch gain of a subframe (IS-96, A.1.4.5). A pair is the lag in samples, and the gain in quarters. What
--- is unfoldable is opaque: a proof sees behind its name only if it says so. Assumes nothing.
-use Rattle.std.specs.Prelude.{◌≡◌, ℕ, ◌+◌, ◌-◌, ◌<◌, ◌≤◌, Bool, true, if◌then◌else◌, ◌&&◌, List, length, ◌==◌, nat_le, slice_index, slice_index_or}
+-- The pitch lag and the pitch gain of a subframe (IS-96, A.1.4.5). A pair is the lag in samples, and the gain in
+-- quarters. What is unfoldable is opaque: a proof sees behind its name only if it says so.
+use Rattle.std.specs.Prelude.{◌≡◌, ℕ, ◌+◌, ◌-◌, ◌<◌, ◌≤◌, Bool, true, if◌then◌else◌, ◌&&◌, List, length, ◌==◌, nat_le}
+use Rattle.std.specs.Prelude.{slice_index, slice_index_or}
 use Rattle.service.specs.declared.rates.Rate.{Rate}
 use Rattle.service.specs.Rates.{rate_is}
 use Rattle.service.specs.Refusals.{Answer}
 use Rattle.figures.specs.declared.pitch.PitchCodes.{PitchCodes}
-use Rattle.figures.specs.Subframes.{RefusedAtFirst}
+use Rattle.service.specs.FirstToFail.{RefusedAtFirst}
 
 -- no pitch: lag 16 and gain 0
 abbrev pub no_pitch : ℕ × ℕ

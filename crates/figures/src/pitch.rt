@@ -18,13 +18,13 @@ const LAG_OFFSET: u32 = 16;
 const GAIN_OFFSET: u32 = 1;
 
 // The shortest lag that goes with a gain above 0.
-const SHORTEST_LAG: u32 = 17;
+const MIN_LAG: u32 = 17;
 
 // The longest lag.
-const LONGEST_LAG: u32 = 143;
+const MAX_LAG: u32 = 143;
 
 // The largest gain: two, in quarters.
-const LARGEST_GAIN: u32 = 8;
+const MAX_GAIN: u32 = 8;
 
 /// PLAG and PGAIN of the pitch subframes of a frame.
 #[derive(Clone, Copy, PartialEq, Eq, Debug, Default)]
@@ -55,7 +55,7 @@ pub fn encode_pitch(subframe: u8, pair: (u32, u32)) -> Result<(u8, u8), Refusal>
 {
     match pair {
         NO_PITCH => Ok((0, 0)),
-        (lag @ SHORTEST_LAG..=LONGEST_LAG, gain @ 1..=LARGEST_GAIN) => {
+        (lag @ MIN_LAG..=MAX_LAG, gain @ 1..=MAX_GAIN) => {
             Ok(((lag - LAG_OFFSET) as u8, (gain - GAIN_OFFSET) as u8))
         }
         _ => Err(Refusal::Pitch(subframe)),

@@ -9,7 +9,7 @@ use Rattle.service.specs.Rates.{rate_is}
 use Rattle.service.proofs.Numbers.{distinct_numbers}
 use Rattle.packet.specs.declared.codes.CodeNumbers.{CodeNumbers}
 use Rattle.packet.specs.Calls.{packet}
-use Rattle.figures.specs.Subframes.{FirstToFail}
+use Rattle.service.specs.FirstToFail.{FirstToFail}
 use Rattle.figures.specs.Codebook.{codebook_allowed, parameter_at}
 use Rattle.figures.specs.Pitch.{pair_at, pitch_allowed}
 use Rattle.law.specs.Sending.{AreComplete, CodebooksAllowed, CodesFrame, FrequenciesAllowed, NoDraw, Parameters, PitchesAllowed, Sent, arrival_sent, frequency_allowed, frequency_at, sender_after}

@@ -1,4 +1,4 @@
--- Every call has an answer on every input, and only one. Assumes nothing.
+-- Every call has an answer on every input, and only one.
 use Rattle.std.specs.Prelude.{◌≡◌, ℕ, ◌≤◌, true, is_some, List, [], ◌∷◌, ◌++◌, length, map, reverse, Ok, Some, Option, Result}
 use Rattle.service.specs.declared.categories.Category.{Category}
 use Rattle.service.specs.declared.readings.Letter.{Letter}

@@ -1,4 +1,4 @@
--- Arrivals, and the supply that hands them over. Assumes nothing.
+-- Arrivals, and the supply that hands them over.
 use Rattle.std.specs.Prelude.{◌≡◌, ℕ, Bool, true, not, ◌&&◌, List, [], ◌∷◌, length, nat_lt, Some, None, Option}
 use Rattle.service.specs.declared.categories.Category.{Category}
 use Rattle.service.specs.declared.categories.Category.TheVariants.{Blank}

@@ -1,4 +1,4 @@
--- The two ends of a link, and what a take does to the receiver. Assumes nothing.
+-- The two ends of a link, and what a take does to the receiver.
 use Rattle.std.specs.Prelude.{◌≡◌, ℕ, List, [], ◌∷◌, ℤ, Some, None, Option}
 use Rattle.service.specs.declared.readings.Letter.{Letter}
 use Rattle.lsp.specs.Histories.{after}

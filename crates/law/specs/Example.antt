@@ -1,4 +1,4 @@
--- That the law speaks of something: a run in which the premises of (a) and of (c) hold. Assumes nothing.
+-- That the law speaks of something: a run in which the premises of (a) and of (c) hold.
 use Rattle.std.specs.Prelude.{◌≡◌, ℕ, ◌<◌, List, ◌-ℤ◌, pos, None, Option, MatchOption, slice_index_or, unsigned_abs}
 use Rattle.service.specs.declared.categories.Category.{Category}
 use Rattle.service.specs.declared.categories.Category.TheVariants.{Full, Suspect}

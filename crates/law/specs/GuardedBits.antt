@@ -1,4 +1,4 @@
--- The guarded bits of a Rate 1 packet, changed and corrected in its bytes. Assumes nothing.
+-- The guarded bits of a Rate 1 packet, changed and corrected in its bytes.
 use Rattle.std.specs.Prelude.{◌≡◌, ℕ, ◌+◌, ◌-◌, ◌/◌, ◌%◌, ◌^◌, ◌<◌, if◌then◌else◌, ◌==◌, List, [], ◌∷◌, take, bit_xor, slice_get, slice_index, slice_set}
 use Rattle.service.specs.declared.rates.Rate.TheVariants.{Full}
 use Rattle.packet_layout.specs.Guarded.{guarded_bits, guarded_code_bits}

@@ -1,4 +1,4 @@
--- What every run from a new link keeps, and what a link's own line delivers. Assumes nothing.
+-- What every run from a new link keeps, and what a link's own line delivers.
 use Rattle.std.specs.Prelude.{◌≡◌, ◌+◌, ◌<◌, ◌≤◌, true, List, [], ◌∷◌, ◌++◌, length, map, Ok, Err, Some, None, Option}
 use Rattle.lsp.specs.States.{InRange}
 use Rattle.law.specs.Arrivals.{Arrival, are_lawful, blank_arrival}

@@ -1,4 +1,4 @@
--- The law of the link. Assumes nothing.
+-- The law of the link.
 use Rattle.std.specs.Prelude.{◌≡◌, ◌↔◌, ◌⊎◌, ℕ, zero, suc, ◌+◌, ◌<◌, ◌≤◌, true, false, List, ◌∷◌, ◌++◌, ℤ, pos, Some, None, Option, MatchOption, slice_get, slice_index_or}
 use Rattle.service.specs.declared.rates.Rate.TheVariants.{Full as Rate1}
 use Rattle.service.specs.declared.categories.Category.TheVariants.{Full, Suspect}

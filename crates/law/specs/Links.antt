@@ -1,5 +1,5 @@
 -- A link, and what each call on its parts does. Of each call one relation says what it answers, and the parts after it; the
--- case of a refusal names the tests that were passed before it. Assumes nothing.
+-- case of a refusal names the tests that were passed before it.
 use Rattle.std.specs.Prelude.{◌≡◌, ◌≢◌, ℕ, ◌-◌, ◌<◌, ◌≤◌, min, true, false, List, [], ◌∷◌, ◌++◌, length, set, Ok, Err, Option, Result}
 use Rattle.service.specs.declared.rates.Rate.{Rate}
 use Rattle.service.specs.declared.refusals.Fault.TheVariants.{UnknownCategory, Length, SpareBits}

@@ -1,4 +1,4 @@
--- Worked examples of the rules, about the definitions that the contracts cite. Assumes nothing.
+-- Worked examples of the rules, about the definitions that the contracts cite.
 use Rattle.std.specs.Prelude.{◌≡◌, ℕ, ◌%◌, ◌^◌, ◌<◌, true, List, [], ◌∷◌, ◌++◌, replicate, pos, negsuc, Some, Option}
 use Rattle.service.specs.declared.rates.Rate.{Rate}
 use Rattle.service.specs.declared.rates.Rate.TheVariants.{Full, Eighth}

@@ -1,4 +1,4 @@
--- How an arrival is read (IS-96, A.1.4.8.6), and what it does to the receiver. Assumes nothing.
+-- How an arrival is read (IS-96, A.1.4.8.6), and what it does to the receiver.
 use Rattle.std.specs.Prelude.{◌≡◌, ◌≢◌, ◌⊎◌, ℕ, ◌-◌, ◌<◌, min, List, Some, None, Option, MatchOption, replicate}
 use Rattle.service.specs.declared.rates.Rate.{Rate}
 use Rattle.service.specs.declared.rates.Rate.TheVariants.{Full as Rate1, Half as Rate1/2, Quarter as Rate1/4, Eighth as Rate1/8}

@@ -1,4 +1,4 @@
--- The rows of a page, a run of takes that queues them, and the page of a reel. Assumes nothing.
+-- The rows of a page, a run of takes that queues them, and the page of a reel.
 use Rattle.std.specs.Prelude.{◌≡◌, ℕ, ◌<◌, ◌≤◌, List, [], ◌∷◌, ◌++◌, length, map, take, ℤ, Ok, Err, Some, None, Option, Result}
 use Rattle.service.specs.declared.readings.Letter.{Letter}
 use Rattle.service.specs.declared.readings.RunEnd.{RunEnd}

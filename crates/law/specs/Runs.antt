@@ -1,4 +1,4 @@
--- Runs of calls on a link, and what is read off one. Assumes nothing.
+-- Runs of calls on a link, and what is read off one.
 use Rattle.std.specs.Prelude.{◌≡◌, ℕ, ◌+◌, ◌≤◌, true, List, [], ◌∷◌, ◌++◌, length, ℤ, Ok, Err, Some, None, Option, Result}
 use Rattle.service.specs.declared.refusals.Refusal.{Refusal}
 use Rattle.lsp.specs.Histories.{Event, blank, packet, restart}

@@ -1,4 +1,4 @@
--- How a sender codes a frame, and when it refuses one. Assumes nothing.
+-- How a sender codes a frame, and when it refuses one.
 use Rattle.std.specs.Prelude.{◌≡◌, ℕ, zero, suc, ◌+◌, ◌*◌, ◌%◌, ◌<◌, ◌≤◌, Bool, true, ◌&&◌, List, [], ◌∷◌, length, Ok, Err, Result, ℤ, pos, ◌-ℤ◌, int_le, slice_index_or}
 use Rattle.service.specs.declared.rates.Rate.{Rate}
 use Rattle.service.specs.declared.rates.Rate.TheVariants.{Full, Half, Quarter, Eighth}
@@ -18,7 +18,7 @@ use Rattle.packet.specs.Calls.{packet}
 use Rattle.figures.specs.declared.codebook.CodebookParameter.{CodebookParameter}
 use Rattle.figures.specs.Codebook.{EncodesCodebooks, RefusesCodebooks, codebook_allowed, parameter_at}
 use Rattle.figures.specs.Pitch.{EncodesPitches, RefusesPitches, pair_at, pitch_allowed}
-use Rattle.figures.specs.Subframes.{RefusedAtFirst}
+use Rattle.service.specs.FirstToFail.{RefusedAtFirst}
 use Rattle.law.specs.Arrivals.{Arrival}
 use Rattle.law.specs.Readings.{AllOnes, codebook_codes_in, last_pitch, pitch_codes_in}
 use Rattle.law.specs.Ends.{Sender}

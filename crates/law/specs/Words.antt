@@ -1,4 +1,4 @@
--- What a change of a packet's bits is in its word. Assumes nothing.
+-- What a change of a packet's bits is in its word.
 use Rattle.std.specs.Prelude.{◌≡◌, ◌≢◌, ℕ, ◌<◌, List, length, bit_xor}
 use Rattle.service.specs.declared.rates.Rate.TheVariants.{Full}
 use Rattle.service.specs.Rates.{rate_is}

@@ -1,5 +1,5 @@
 -- The decay D of a memory (IS-96, A.1.4.3.2.7): the predictor of an LSP multiplies what it holds by 0.90625, which is
--- 29/32. Assumes nothing.
+-- 29/32.
 use Rattle.std.specs.Prelude.{ℕ, ◌*◌, ◌^◌, ◌≤◌, ℤ, pos, ◌+ℤ◌, ◌-ℤ◌, ◌*ℤ◌, ◌≤ℤ◌, ◌<ℤ◌, unsigned_abs}
 use Rattle.std.specs.Int.{int_div_euclid}
 

@@ -1,4 +1,4 @@
--- The history that a list of events of the code stands for. Assumes nothing.
+-- The history that a list of events of the code stands for.
 use Rattle.std.specs.Prelude.{List, [], ◌∷◌, map, reverse}
 use Rattle.lsp.specs.declared.histories.Event.{Event as CodeEvent}
 use Rattle.lsp.specs.declared.histories.Event.TheVariants.{Packet, Erasure, Blank, Restart}

@@ -1,4 +1,4 @@
--- Histories of an end, the memories after them, and the unrounded values beside these. Assumes nothing.
+-- Histories of an end, the memories after them, and the unrounded values beside these.
 use Rattle.std.specs.Prelude.{ℕ, ◌+◌, ◌^◌, List, [], ◌∷◌, ℤ, pos, ◌+ℤ◌, ◌*ℤ◌, slice_index}
 use Rattle.service.specs.declared.rates.Rate.{Rate}
 use Rattle.lsp.specs.Quantizers.{Within, value_of}

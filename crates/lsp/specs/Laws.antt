@@ -1,5 +1,6 @@
--- The laws of the memories, over whole histories. Assumes nothing.
-use Rattle.std.specs.Prelude.{◌≡◌, ℕ, ◌*◌, ◌^◌, ◌<◌, ◌≤◌, List, ◌++◌, length, ℤ, pos, ◌-ℤ◌, ◌*ℤ◌, slice_index_or, unsigned_abs}
+-- The laws of the memories, over whole histories.
+use Rattle.std.specs.Prelude.{◌≡◌, ℕ, ◌*◌, ◌^◌, ◌<◌, ◌≤◌, List, ◌++◌, length, ℤ, pos, ◌-ℤ◌, ◌*ℤ◌, slice_index_or}
+use Rattle.std.specs.Prelude.{unsigned_abs}
 use Rattle.service.specs.declared.rates.Rate.{Rate}
 use Rattle.lsp.specs.Quantizers.{top_code, value_of, code_of}
 use Rattle.lsp.specs.States.{InRange, fresh}
@@ -12,7 +13,8 @@ CodeOfValue = (rate : Rate) (i c : ℕ) → i < 10 → c ≤ top_code rate → c
 -- no code of the rate has a value nearer to the offset than the offset's own code has
 abbrev pub NearestCode : Type 0
 NearestCode =
-    (rate : Rate) (i : ℕ) → i < 10 → (w : ℤ) (c : ℕ) → c ≤ top_code rate → unsigned_abs (w -ℤ value_of rate i (code_of rate i w)) ≤ unsigned_abs (w -ℤ value_of rate i c)
+    (rate : Rate) (i : ℕ) → i < 10 → (w : ℤ) (c : ℕ) → c ≤ top_code rate
+    → unsigned_abs (w -ℤ value_of rate i (code_of rate i w)) ≤ unsigned_abs (w -ℤ value_of rate i c)
 
 -- no memory leaves its range, over a history whose codes are within their rates
 abbrev pub StaysInRange : Type 0
@@ -38,9 +40,11 @@ pub record Same256 (recent recent' : List Event) : Type 0 where
 -- any two lists of memories in range agree after the same 256 events, packets above all
 abbrev pub Agreement : Type 0
 Agreement =
-    (m n : List ℤ) → InRange m → InRange n → (recent recent' : List Event) → Same256 recent recent' → Agree (after m recent) (after n recent')
+    (m n : List ℤ) → InRange m → InRange n → (recent recent' : List Event) → Same256 recent recent'
+    → Agree (after m recent) (after n recent')
 
 -- and so do the memories of two ends, after whatever lawful past each has
 abbrev pub EndsAgree : Type 0
 EndsAgree =
-    (past past' recent recent' : List Event) → Lawful past → Lawful past' → Same256 recent recent' → Agree (after fresh (recent ++ past)) (after fresh (recent' ++ past'))
+    (past past' recent recent' : List Event) → Lawful past → Lawful past' → Same256 recent recent'
+    → Agree (after fresh (recent ++ past)) (after fresh (recent' ++ past'))

@@ -1,6 +1,7 @@
 -- The LSP quantizers (IS-96, A.1.4.3.2.7 and A.1.4.3.3.1), in grains: a grain is the sampling frequency divided by
--- 10,813,440,000. Assumes nothing.
-use Rattle.std.specs.Prelude.{ℕ, ◌*◌, ◌/◌, ◌<◌, ◌≤◌, List, [], ◌∷◌, ℤ, pos, ◌+ℤ◌, ◌-ℤ◌, ◌*ℤ◌, slice_index, slice_index_or, unsigned_abs}
+-- 10,813,440,000.
+use Rattle.std.specs.Prelude.{ℕ, ◌*◌, ◌/◌, ◌<◌, ◌≤◌, List, [], ◌∷◌, ℤ, pos, ◌+ℤ◌, ◌-ℤ◌, ◌*ℤ◌, slice_index}
+use Rattle.std.specs.Prelude.{slice_index_or, unsigned_abs}
 use Rattle.std.specs.Int.{int_div_euclid, int_max, int_min}
 use Rattle.service.specs.declared.rates.Rate.{Rate}
 use Rattle.service.specs.declared.rates.Rate.TheVariants.{Full, Half, Quarter, Eighth}
@@ -32,8 +33,8 @@ value_of rate i c = (pos (2 * c) -ℤ pos (top_code rate)) *ℤ pos (half_step r
 abbrev pub largest_value : ℕ
 largest_value = 70 * 165 * 65536
 
--- The code of an offset w: (w + M × h + h) / (2 × h) rounded down, then limited to 0 to M. So an offset midway between the
--- values of two codes has the higher code. int_div_euclid rounds down, since the divisor is above 0.
+-- The code of an offset w: (w + M × h + h) / (2 × h) rounded down, then limited to 0 to M. So an offset midway between
+-- the values of two codes has the higher code. int_div_euclid rounds down, since the divisor is above 0.
 abbrev pub unlimited_code : Rate → ℕ → ℤ → ℤ
 unlimited_code rate i w =
     int_div_euclid (w +ℤ pos (top_code rate * half_step rate i) +ℤ pos (half_step rate i)) (pos (2 * half_step rate i))

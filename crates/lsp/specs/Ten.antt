@@ -1,4 +1,4 @@
--- Ten values, one for each LSP. LSP i + 1 stands at index i, everywhere. Assumes nothing.
+-- Ten values, one for each LSP. LSP i + 1 stands at index i, everywhere.
 use Rattle.std.specs.Prelude.{ℕ, List, [], ◌∷◌}
 
 unfoldable pub ten : {A : Type 0} → (ℕ → A) → List A

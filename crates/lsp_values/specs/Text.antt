@@ -1,4 +1,4 @@
--- A row of the table of LSP values, byte by byte. Assumes nothing.
+-- A row of the table of LSP values, byte by byte.
 use Rattle.std.specs.Prelude.{ℕ, List, ◌++◌, ℤ, codes, decimal}
 use Rattle.std.specs.Fmt.{signed_decimal}
 

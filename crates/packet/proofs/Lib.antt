@@ -10,3 +10,4 @@ pub mod Returns
 pub mod Checked
 pub mod Trips
 pub mod Answers
+pub mod Changed

@@ -1,4 +1,4 @@
--- The bits of a packet. Assumes nothing.
+-- The bits of a packet.
 use Rattle.std.specs.Prelude.{ℕ, zero, suc, ◌+◌, ◌-◌, ◌*◌, ◌/◌, ◌%◌, ◌^◌, List, Some, None, Option, map, slice_index}
 use Rattle.std.specs.List.{range_with_len}
 use Rattle.service.specs.declared.rates.Rate.{Rate}

@@ -1,4 +1,4 @@
--- What packing and unpacking answer, for every input. Assumes nothing.
+-- What packing and unpacking answer, for every input.
 use Rattle.std.specs.Prelude.{◌≡◌, ◌≢◌, ℕ, ◌<◌, ◌≤◌, ◌⊎◌, false, List, ◌++◌, Some, Result, MatchResult, length, drop}
 use Rattle.service.specs.declared.rates.Rate.{Rate}
 use Rattle.service.specs.declared.refusals.Refusal.{Refusal}
@@ -40,13 +40,15 @@ Packs number c before after r =
     ((rate : Rate) × ((rate_is rate).number ≡ number) × Within rate c × PacksCodes rate c before after r)
     ⊎ (AreNotCodes number c × (after ≡ before) × MatchResult r (λ _. ⊥) (λ e. refusal_is e ≡ refused 17))
 
--- the codes that a packet holds: each within its width, and each code bit that the packet carries is the packet's; check
--- bits are not looked at
+-- the codes that a packet holds: each within its width, and each code bit that the packet carries is the packet's;
+-- check bits are not looked at
 pub record Holds (rate : Rate) (packet : List ℕ) (c : CodeNumbers) : Type 0 where
   pub within : Within rate c
-  pub bits : (k : ℕ) (b : CodeBit) → at (layout rate) k ≡ Some b → b.0 ≢ Pcb → value (in_order c) (Some b) ≡ bit_at packet k
+  pub bits :
+      (k : ℕ) (b : CodeBit) → at (layout rate) k ≡ Some b → b.0 ≢ Pcb → value (in_order c) (Some b) ≡ bit_at packet k
 
--- the packet has the length of its rate, and its spare bits are zero; the number of a rate is that of the category of its packets
+-- the packet has the length of its rate, and its spare bits are zero; the number of a rate is that of the category of
+-- its packets
 pub record Lawful (rate : Rate) (bytes : List ℕ) : Type 0 where
   pub length : length bytes ≡ (rate_is rate).bytes
   pub spare : spare_bits_set (category_of (rate_is rate).number) bytes ≡ false

@@ -1,4 +1,4 @@
--- The check bits of a Rate 1 packet, in its codes and in its bytes. Assumes nothing.
+-- The check bits of a Rate 1 packet, in its codes and in its bytes.
 use Rattle.std.specs.Prelude.{ℕ, ◌%◌, ◌^◌, List, bit_xor, slice_index, slice_get}
 use Rattle.service.specs.declared.rates.Rate.{Rate}
 use Rattle.service.specs.declared.rates.Rate.TheVariants.{Full, Half, Quarter, Eighth}
@@ -17,7 +17,8 @@ message_of codes = number_of (λ i. value codes (slice_get guarded_code_bits i))
 abbrev pub inversion : ℕ
 inversion = 0b111_1111_1110
 
--- PCB as it is transmitted, bit j for PCB[j]: the lowest eleven bits of the word that is sent for a(x), with the inversion
+-- PCB as it is transmitted, bit j for PCB[j]: the lowest eleven bits of the word that is sent for a(x), with the
+-- inversion
 abbrev pub transmitted : ℕ → ℕ
 transmitted a = bit_xor (sent a % 2 ^ 11) inversion
 
@@ -32,7 +33,8 @@ pcb_of Eighth c = 0
 unfoldable pub word_of : List ℕ → ℕ
 word_of packet = bit_xor (number_of (λ i. bit_at packet (place Full (slice_index guarded_bits i))) 29) inversion
 
--- the check bits of a packet are right: those of its word are; at the other rates a packet has none, and is always right
+-- the check bits of a packet are right: those of its word are; at the other rates a packet has none, and is always
+-- right
 abbrev pub RightPacket : Rate → List ℕ → Type 0
 RightPacket Full packet = RightCheckBits (word_of packet)
 RightPacket Half packet = Unit {0}

@@ -1,4 +1,4 @@
--- The codes of a frame. Assumes nothing.
+-- The codes of a frame.
 use Rattle.std.specs.Prelude.{◌≡◌, ℕ, List, [], ◌∷◌, ◌++◌, length, slice_index, take, drop}
 use Rattle.service.specs.declared.rates.Rate.{Rate}
 use Rattle.packet_layout.specs.declared.code_bits.CodeName.TheVariants.{Lsp, Plag, Pgain, Cbindex, Cbgain, Cbseed}

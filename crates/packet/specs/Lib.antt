@@ -2,6 +2,7 @@ pub mod Codes
 pub mod Bits
 pub mod Reading
 pub mod CheckBits
+pub mod Changes
 pub mod Calls
 pub mod Unpacking
 pub mod Laws

@@ -1,4 +1,4 @@
--- Packing and unpacking have one answer for each input. Assumes nothing.
+-- Packing and unpacking have one answer for each input.
 use Rattle.std.specs.Prelude.{◌≡◌, ℕ, List, Ok, Err, Result}
 use Rattle.service.specs.declared.refusals.Refusal.{Refusal}
 use Rattle.service.specs.Refusals.{refusal_is}
@@ -21,6 +21,10 @@ SameUnpacked _ _ = ⊥
 
 -- two answers to one call are the same, and so are the buffers after it
 pub record OneAnswer : Type 0 where
-  pub packing : (number : ℕ) (c : CodeNumbers) (before after after' : List ℕ) (r r' : Result ℕ Refusal) → Packs number c before after r → Packs number c before after' r'
+  pub packing :
+      (number : ℕ) (c : CodeNumbers) (before after after' : List ℕ) (r r' : Result ℕ Refusal)
+      → Packs number c before after r → Packs number c before after' r'
       → (after ≡ after') × SamePacked r r'
-  pub unpacking : (number : ℕ) (bytes : List ℕ) (r r' : Result Codes Refusal) → Unpacks number bytes r → Unpacks number bytes r' → SameUnpacked r r'
+  pub unpacking :
+      (number : ℕ) (bytes : List ℕ) (r r' : Result Codes Refusal) → Unpacks number bytes r → Unpacks number bytes r'
+      → SameUnpacked r r'

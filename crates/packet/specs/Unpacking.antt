@@ -1,4 +1,4 @@
--- What unpacking answers, for every input. Assumes nothing.
+-- What unpacking answers, for every input.
 use Rattle.std.specs.Prelude.{◌≡◌, ◌≢◌, ℕ, ◌⊎◌, true, List, Result, MatchResult, length}
 use Rattle.service.specs.declared.rates.Rate.{Rate}
 use Rattle.service.specs.declared.refusals.Fault.{Fault}
@@ -14,7 +14,8 @@ use Rattle.packet.specs.Calls.{Holds, Lawful}
 abbrev pub UnpackFault : Rate → List ℕ → Answer → Type 0
 UnpackFault rate bytes a =
     ((a ≡ refused_at 6 0) × (length bytes ≢ (rate_is rate).bytes))
-    ⊎ ((a ≡ refused_at 9 0) × (length bytes ≡ (rate_is rate).bytes) × (spare_bits_set (category_of (rate_is rate).number) bytes ≡ true))
+    ⊎ ((a ≡ refused_at 9 0) × (length bytes ≡ (rate_is rate).bytes)
+    × (spare_bits_set (category_of (rate_is rate).number) bytes ≡ true))
 
 -- what unpacking at a rate answers: the codes that a lawful packet holds, and else the fault
 abbrev pub UnpacksCodes : Rate → List ℕ → Result Codes Fault → Type 0

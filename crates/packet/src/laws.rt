@@ -1,4 +1,5 @@
 //! The laws of packing and unpacking, each a theorem that the contract of a function carries.
+ghost use Rattle.packet.specs.Changes.{BitsChange};
 ghost use Rattle.packet.specs.OneAnswer.{OneAnswer};
 ghost use Rattle.packet.specs.Laws.{EachBitOfAPacket, GuardedWord, OneRecordInEachPacket, PackingReturnsThePacket, UnpackingReturnsTheCodes};
 
@@ -29,6 +30,13 @@ pub fn packing_returns_the_packet()
 #[tactic(auto, using(crate::proofs::Trips::guarded_word))]
 pub fn guarded_word()
     ensures { GuardedWord }
+{}
+
+/// Carries a theorem: a Rate 1 packet with one bit changed has that bit changed and no other, and a second change takes it back;
+/// and to correct a place of the cyclic code in a packet is to correct it in the packet's word.
+#[tactic(auto, using(crate::proofs::Changed::bits_change))]
+pub fn bits_change()
+    ensures { BitsChange }
 {}
 
 /// Carries a theorem: two answers of packing to the same input are the same length or the same refusal, and leave the same buffer;

@@ -14,8 +14,8 @@ mod packing;
 
 pub use codes::{CodeNumbers, Codes};
 pub use laws::{
-    each_bit_of_a_packet, guarded_word, one_answer, one_record, packing_returns_the_packet,
-    unpacking_returns_the_codes,
+    bits_change, each_bit_of_a_packet, guarded_word, one_answer, one_record,
+    packing_returns_the_packet, unpacking_returns_the_codes,
 };
 use service::{Rate, Refusal};
 

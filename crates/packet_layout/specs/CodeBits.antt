@@ -1,4 +1,4 @@
--- The codes of a frame and their bits, named as IS-96 names them: LSP1[3] is bit 3 of LSP code 1. Assumes nothing.
+-- The codes of a frame and their bits, named as IS-96 names them: LSP1[3] is bit 3 of LSP code 1.
 use Rattle.std.specs.Prelude.{ℕ, ◌+◌, ◌-◌, ◌^◌, ◌<◌, ◌≤◌, cond, nat_lt, List, [], ◌∷◌, length, slice_index}
 use Rattle.service.specs.declared.rates.Rate.{Rate}
 use Rattle.service.specs.declared.rates.Rate.TheVariants.{Full, Half, Quarter, Eighth}
@@ -64,12 +64,13 @@ pub record Has (rate : Rate) (c : CodeBit) : Type 0 where
 abbrev pub bits_at : Rate → CodeName → ℕ → ℕ
 bits_at rate name i = cond (nat_lt i (count rate name)) (width rate name) 0
 
--- Each code of a name is within its width, so that a code that the rate lacks is zero. The codes are counted from index 0.
+-- Each code of a name is within its width, so that a code that the rate lacks is zero. The codes are counted from index
+-- 0.
 abbrev pub Fits : Rate → CodeName → List ℕ → Type 0
 Fits rate name codes = (i : ℕ) → i < length codes → slice_index codes i < 2 ^ bits_at rate name i
 
--- The codes of a frame in order are LSP 1 to 10, PLAG 1 to 4, PGAIN 1 to 4, CBINDEX 1 to 8, CBGAIN 1 to 8, CBSEED and PCB:
--- where the codes of this name begin, counted from 0
+-- The codes of a frame in order are LSP 1 to 10, PLAG 1 to 4, PGAIN 1 to 4, CBINDEX 1 to 8, CBGAIN 1 to 8, CBSEED and
+-- PCB: where the codes of this name begin, counted from 0
 abbrev pub first : CodeName → ℕ
 first Lsp = 0
 first Plag = 10

@@ -1,4 +1,4 @@
--- What the layouts promise. Assumes nothing.
+-- What the layouts promise.
 use Rattle.std.specs.Prelude.{◌≡◌, ℕ, ◌-◌, ◌<◌, List, length, Some, slice_index, slice_get}
 use Rattle.service.specs.declared.rates.Rate.{Rate}
 use Rattle.service.specs.declared.rates.Rate.TheVariants.{Full}
@@ -12,7 +12,8 @@ use Rattle.packet_layout.specs.Guarded.{guarded, guarded_bits}
 abbrev pub Once : List CodeBit → CodeBit → Type 0
 Once places c = (k : ℕ) × (at places k ≡ Some c) × ((j : ℕ) → at places j ≡ Some c → j ≡ k)
 
--- each code bit of the rate, check bits too, stands at exactly one place, and each bit of the packet carries one of them
+-- each code bit of the rate, check bits too, stands at exactly one place, and each bit of the packet carries one of
+-- them
 pub record EachCodeBitOnce (rate : Rate) (places : List CodeBit) : Type 0 where
   pub once : (c : CodeBit) → Has rate c → Once places c
   pub carried : (k : ℕ) (c : CodeBit) → at places k ≡ Some c → Has rate c

@@ -1,4 +1,4 @@
--- Which code bit each bit of a packet carries (IS-96, A.1.4.7.1.2 to A.1.4.7.4). Assumes nothing.
+-- Which code bit each bit of a packet carries (IS-96, A.1.4.7.1.2 to A.1.4.7.4).
 use Rattle.std.specs.Prelude.{ℕ, zero, suc, List, [], ◌∷◌, ◌++◌, map, take, drop, Option, slice_get}
 use Rattle.std.specs.List.{flat_map}
 use Rattle.service.specs.declared.rates.Rate.{Rate}
@@ -46,7 +46,8 @@ unfoldable pub two_codebooks : ℕ → List CodeBit
 unfolding codebook_without_1
 two_codebooks n = codebook_without_1 n ++ codebook_without_1 (suc n)
 
--- what is not guarded below the upper halves: the lower halves, then each pitch subframe with its two codebook subframes
+-- what is not guarded below the upper halves: the lower halves, then each pitch subframe with its two codebook
+-- subframes
 unfoldable pub not_guarded : List CodeBit
 unfolding lower_halves pitch two_codebooks
 not_guarded =

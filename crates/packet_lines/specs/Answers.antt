@@ -1,4 +1,4 @@
--- What each line is answered. Assumes nothing.
+-- What each line is answered.
 use Rattle.std.specs.Prelude.{◌≡◌, ℕ, ◌⊎◌, List, ◌++◌, Ok, Err, Result, codes}
 use Rattle.service.specs.declared.rates.Rate.{Rate}
 use Rattle.service.specs.declared.refusals.Refusal.{Refusal}

@@ -1,5 +1,6 @@
--- What a line asks for. Assumes nothing.
-use Rattle.std.specs.Prelude.{◌≡◌, ℕ, ◌==◌, ◌&&◌, nat_lt, if◌then◌else◌, List, [], ◌∷◌, length, slice_index, drop, codes, Result, Ok, Err}
+-- What a line asks for.
+use Rattle.std.specs.Prelude.{◌≡◌, ℕ, ◌==◌, ◌&&◌, nat_lt, if◌then◌else◌, List, [], ◌∷◌, length, slice_index, drop}
+use Rattle.std.specs.Prelude.{codes, Result, Ok, Err}
 use Rattle.std.specs.List.{slice_split}
 use Rattle.std.specs.Str.{all_ascii_digits, bytes_eq}
 use Rattle.std.specs.Str.Lines.{strip_carriage_return}
@@ -36,7 +37,9 @@ words line = slice_split (λ b. b == 32) line
 
 -- decimal digits, one or more, of a number below 256
 abbrev pub number : List ℕ → Result ℕ Unreadable
-number w = if nat_lt 0 (length w) && (all_ascii_digits w && nat_lt (digits_value 10 w) 256) then Ok (digits_value 10 w) else Err Number
+number w =
+    if nat_lt 0 (length w)
+    && (all_ascii_digits w && nat_lt (digits_value 10 w) 256) then Ok (digits_value 10 w) else Err Number
 
 abbrev pub numbers : List (List ℕ) → Result (List ℕ) Unreadable
 numbers [] = Ok []
@@ -56,7 +59,9 @@ packet_bytes w = if bytes_eq w (codes "-") then Ok [] else if length w == 0 then
 
 -- behind pack stand a rate and 35 codes
 abbrev pub pack_words : List (List ℕ) → Result Asked Unreadable
-pack_words ws = if length ws == 36 then (numbers ws >>= λ ns. Ok (pack (slice_index ns 0) (numbers_of (drop 1 ns)))) else Err PackWords
+pack_words ws =
+    if length ws == 36 then (numbers ws >>= λ ns. Ok (pack (slice_index ns 0) (numbers_of (drop 1 ns))))
+    else Err PackWords
 
 -- behind unpack stand a rate and a packet
 abbrev pub unpack_words : List (List ℕ) → Result Asked Unreadable

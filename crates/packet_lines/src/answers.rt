@@ -9,7 +9,7 @@ use packet::CodeNumbers;
 use std::alloc::{AllocError, Global};
 
 // The bytes of the longest packet, which is that of Rate 1.
-const LONGEST_PACKET: usize = 22;
+const MAX_PACKET_BYTES: usize = 22;
 
 /// What a line is answered: a packet, codes, a refusal, or why the line asks for nothing.
 pub fn answer(heap: Global, line: &[u8]) -> Result<String, AllocError>
@@ -27,7 +27,7 @@ pub fn answer(heap: Global, line: &[u8]) -> Result<String, AllocError>
 fn pack_answer(heap: Global, rate: u8, numbers: &CodeNumbers) -> Result<String, AllocError>
     ensures { IfOk result (λ s. AnswersPack rate numbers.now (string_bytes s)) }
 {
-    let mut packet = [0; LONGEST_PACKET];
+    let mut packet = [0; MAX_PACKET_BYTES];
     match packet::pack(rate, numbers, &mut packet) {
         Ok(bytes) => packet_text(heap, &packet[..bytes]),
         Err(refusal) => format!(in heap; "{refusal}"),

@@ -1,4 +1,4 @@
--- The four numbers that a reel starts with, as the code holds them. Assumes nothing.
+-- The four numbers that a reel starts with, as the code holds them.
 use Rattle.std.specs.Prelude.{◌≡◌, ℕ, List}
 use Rattle.reel.specs.declared.layout.Header.{Header}
 use Rattle.reel.specs.Layout.{count, list_at, area_at, length_field}

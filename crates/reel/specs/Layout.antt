@@ -1,11 +1,12 @@
--- Where the parts of a reel lie among its bytes. Records are counted from 0. Assumes nothing: a byte past the end reads as 0.
+-- Where the parts of a reel lie among its bytes. Records are counted from 0. A byte past the end reads as 0.
 use Rattle.std.specs.Prelude.{ℕ, ◌+◌, ◌*◌, List, take, drop, slice_index}
 use Rattle.service.specs.declared.categories.Category.{Category}
 use Rattle.service.specs.Categories.{category_is, category_of}
 
 -- the 32-bit number at an offset, low byte first
 abbrev pub word : List ℕ → ℕ → ℕ
-word bs i = slice_index bs i + 256 * slice_index bs (i + 1) + 65536 * slice_index bs (i + 2) + 16777216 * slice_index bs (i + 3)
+word bs i =
+    slice_index bs i + 256 * slice_index bs (i + 1) + 65536 * slice_index bs (i + 2) + 16777216 * slice_index bs (i + 3)
 
 -- the four numbers at the start: how many records, where they start, where the packet area starts, how many bytes
 abbrev pub count : List ℕ → ℕ

@@ -1,4 +1,4 @@
--- What record k of a reel is, from 0. Assumes nothing.
+-- What record k of a reel is, from 0.
 use Rattle.std.specs.Prelude.{◌≡◌, ℕ, ◌<◌, ◌≤◌, false, List, [], length, Some, None, Option}
 use Rattle.service.specs.declared.categories.Category.{Category}
 use Rattle.service.specs.declared.categories.Category.TheVariants.{Blank as BlankCategory, Erasure as ErasureCategory}

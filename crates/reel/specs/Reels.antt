@@ -1,4 +1,4 @@
--- A checked reel stands for its bytes. Assumes nothing.
+-- A checked reel stands for its bytes.
 use Rattle.std.specs.Prelude.{ℕ, List}
 use Rattle.reel.specs.declared.Reel.{Reel}
 

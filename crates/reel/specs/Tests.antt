@@ -1,18 +1,23 @@
--- The nine tests of a reel in their order, each beside what it is answered with where it fails, that is, comes out true.
--- The answer is that of the first test that fails. Assumes nothing.
-use Rattle.std.specs.Prelude.{ℕ, zero, suc, ◌+◌, ◌*◌, Bool, cond, not, ◌&&◌, ◌||◌, List, [], ◌∷◌, ◌++◌, length, Some, None, Option, ◌==◌, nat_lt, slice_index}
+-- The nine tests of a reel in their order, each beside what it is answered with where it fails, that is, comes out
+-- true. The answer is that of the first test that fails.
+use Rattle.std.specs.Prelude.{ℕ, zero, suc, ◌+◌, ◌*◌, Bool, cond, not, ◌&&◌, ◌||◌, List, [], ◌∷◌, ◌++◌, length, Some}
+use Rattle.std.specs.Prelude.{None, Option, ◌==◌, nat_lt, slice_index}
 use Rattle.service.specs.declared.categories.Category.{Category}
 use Rattle.service.specs.Categories.{category_is}
 use Rattle.service.specs.Refusals.{Answer, refused, refused_at}
 use Rattle.service.specs.Tests.{unknown_category, wrong_length, spare_bits_set}
-use Rattle.reel.specs.Layout.{count, list_at, area_at, length_field, record_at, packet_at, category_byte, length_byte, category_at, packet_of}
+use Rattle.reel.specs.Layout.{count, list_at, area_at, length_field, record_at, packet_at, category_byte, length_byte}
+use Rattle.reel.specs.Layout.{category_at, packet_of}
 
 abbrev pub header_tests : List ℕ → List (Bool × Answer)
 header_tests bs =
     (nat_lt (length bs) 16 || nat_lt 65536 (length bs), refused 1)
     ∷ (not (length_field bs == length bs), refused 2)
     ∷ (nat_lt 2048 (count bs), refused 3)
-    ∷ (nat_lt (list_at bs) 16 || nat_lt (area_at bs) (list_at bs + 8 * count bs) || nat_lt (length bs) (area_at bs), refused 4)
+    ∷ (
+      nat_lt (list_at bs) 16 || nat_lt (area_at bs) (list_at bs + 8 * count bs) || nat_lt (length bs) (area_at bs),
+      refused 4,
+    )
     ∷ []
 
 -- the packet of this category that starts at an offset passes the end; one with no bytes does not, wherever it starts
@@ -24,7 +29,10 @@ abbrev pub record_tests : List ℕ → ℕ → List (Bool × Answer)
 record_tests bs k =
     (unknown_category (category_byte bs k), refused_at 5 (k + 1))
     ∷ (wrong_length (category_at bs k) (length_byte bs k), refused_at 6 (k + 1))
-    ∷ (not (slice_index bs (record_at bs k + 6) == 0) || not (slice_index bs (record_at bs k + 7) == 0), refused_at 7 (k + 1))
+    ∷ (
+      not (slice_index bs (record_at bs k + 6) == 0) || not (slice_index bs (record_at bs k + 7) == 0),
+      refused_at 7 (k + 1),
+    )
     ∷ (past_end bs (packet_at bs k) (category_at bs k), refused_at 8 (k + 1))
     ∷ (spare_bits_set (category_at bs k) (packet_of bs k), refused_at 9 (k + 1))
     ∷ []

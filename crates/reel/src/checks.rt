@@ -8,7 +8,7 @@ ghost use Rattle.reel.specs.Layout.{count, part};
 ghost use Rattle.reel.specs.Records.{IsRecord};
 ghost use Rattle.reel.specs.Tests.{first, fault, header_tests, record_tests, past_end};
 
-use crate::MOST_BYTES;
+use crate::MAX_BYTES;
 use crate::layout::{
     HEADER_BYTES, Header, RECORD_BYTES, RECORD_CATEGORY_AT, RECORD_LAST_AT, RECORD_LENGTH_AT,
     RECORD_ZERO_AT, word_at,
@@ -17,7 +17,7 @@ use crate::records::Record;
 use service::{Category, Fault};
 
 /// The most records that a reel may have.
-const MOST_RECORDS: usize = 2_048;
+const MAX_RECORDS: usize = 2_048;
 
 /// The bytes of a reel whose header passed its tests, with that header.
 #[derive(Clone, Copy, PartialEq, Eq, Debug)]
@@ -37,14 +37,14 @@ impl<'a> Layout<'a> {
         ensures lawful { IfErr result (λ _. Lawful bytes.now → ⊥) }
     {
         let length = bytes.len();
-        if length < HEADER_BYTES || MOST_BYTES < length {
+        if length < HEADER_BYTES || MAX_BYTES < length {
             return Err(Fault::Size);
         }
         let header = Header::read(bytes);
         if header.length != length {
             return Err(Fault::LengthField);
         }
-        if MOST_RECORDS < header.count {
+        if MAX_RECORDS < header.count {
             return Err(Fault::RecordCount);
         }
         if header.list < HEADER_BYTES

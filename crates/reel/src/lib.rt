@@ -19,7 +19,7 @@ mod records;
 pub use records::Record;
 
 /// The most bytes that a reel may have.
-pub const MOST_BYTES: usize = 65_536;
+pub const MAX_BYTES: usize = 65_536;
 
 /// A header alone: no records, and the record list and the packet area at its end.
 const EMPTY: [u8; 16] = [0, 0, 0, 0, 16, 0, 0, 0, 16, 0, 0, 0, 16, 0, 0, 0];

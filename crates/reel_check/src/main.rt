@@ -11,7 +11,7 @@ use std::process::ExitCode;
 use std::{env, io};
 
 /// One byte more than the longest reel: an input that has so many is refused, and not read to its end.
-const MOST_INPUT: usize = reel::MOST_BYTES + 1;
+const MAX_INPUT: usize = reel::MAX_BYTES + 1;
 
 const HELP: &str = "\
 Usage: reel_check < REEL
@@ -41,18 +41,18 @@ fn run(rt: &HostRuntime) -> anyhow::Result<()> {
         println!(rt; "{HELP}")?;
         return Ok(());
     }
-    let mut input = Vec::with_capacity(rt.alloc(), MOST_INPUT)?;
+    let mut input = Vec::with_capacity(rt.alloc(), MAX_INPUT)?;
     read_reel(rt.stdin(), &mut input).context("standard input cannot be read")?;
     let text = reel_text::listing(rt.alloc(), &input)?;
     rt.print(text)?;
     Ok(())
 }
 
-/// Adds the bytes of an input, up to `MOST_INPUT` of them.
+/// Adds the bytes of an input, up to `MAX_INPUT` of them.
 fn read_reel<R: Read + Drop>(input: R, bytes: &mut Vec<u8>) -> io::Result<()>
-    ensures { OnOk result (IfSome (option_map (take MOST_INPUT) (R.remaining input))
+    ensures { OnOk result (IfSome (option_map (take MAX_INPUT) (R.remaining input))
         (λ first. bytes.new.items ≡ bytes.old.items ++ first)) }
 {
-    input.take(MOST_INPUT as u64).read_to_end(bytes)?;
+    input.take(MAX_INPUT as u64).read_to_end(bytes)?;
     Ok(())
 }

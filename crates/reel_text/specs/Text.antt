@@ -1,5 +1,6 @@
--- The text of a checked reel, byte by byte: a line for each record and a verdict. Assumes nothing.
-use Rattle.std.specs.Prelude.{ℕ, zero, suc, ◌/◌, ◌%◌, false, List, [], ◌∷◌, ◌++◌, Some, None, Ok, Err, codes, decimal, Option, Result}
+-- The text of a checked reel, byte by byte: a line for each record and a verdict.
+use Rattle.std.specs.Prelude.{ℕ, zero, suc, ◌/◌, ◌%◌, false, List, [], ◌∷◌, ◌++◌, Some, None, Ok, Err, codes, decimal}
+use Rattle.std.specs.Prelude.{Option, Result}
 use Rattle.std.specs.Fmt.{digit_glyph}
 use Rattle.std.specs.List.{flat_map}
 use Rattle.service.specs.declared.refusals.Fault.{Fault}
@@ -45,7 +46,8 @@ verdict_text (Err e) = refused_text (fault_is e)
 -- the lines of the first n records
 unfoldable pub record_lines : List ℕ → ℕ → List ℕ
 record_lines bs zero = []
-record_lines bs (suc k) = record_lines bs k ++ (record_text (suc k) (record_of (category_at bs k) (packet_of bs k)) ++ codes "\n")
+record_lines bs (suc k) =
+    record_lines bs k ++ (record_text (suc k) (record_of (category_at bs k) (packet_of bs k)) ++ codes "\n")
 
 -- the whole text: an unlawful reel has one line
 abbrev pub text_by : List ℕ → Option Answer → List ℕ

@@ -1,5 +1,5 @@
 -- What each number stands for, and that it stands for nothing else.
-use Rattle.std.proofs.Common.{◌≡◌, ℕ, zero, suc, ◌≤◌, Bool, eqb, [], ◌∷◌, get_or, unwrap_or, sym, refl, ap, ◌∙◌, arith, rules}
+use Rattle.std.proofs.Common.{◌≡◌, ℕ, zero, suc, ◌-◌, ◌≤◌, Bool, eqb, [], ◌∷◌, get_or, unwrap_or, sym, refl, ap, ◌∙◌, arith, rules}
 use Rattle.std.proofs.lemmas.Bool.{eqb-true}
 use Rattle.service.specs.declared.rates.Rate.{Rate}
 use Rattle.service.specs.declared.rates.Rate.TheVariants as rate
@@ -8,6 +8,11 @@ use Rattle.service.specs.declared.refusals.Fault.{Fault}
 use Rattle.service.specs.declared.refusals.Fault.TheVariants.{Size, LengthField, RecordCount, Offsets, UnknownCategory, Length, Reserved, PastEnd, SpareBits}
 use Rattle.service.specs.declared.refusals.Refusal.{Refusal}
 use Rattle.service.specs.declared.refusals.Refusal.TheVariants.{Faulty, Frequency, Pitch, Codebook, Draws, LineFull, NoArrival, ShortBuffer, Codes, UnlawfulReel}
+use Rattle.service.specs.declared.readings.Letter.{Letter}
+use Rattle.service.specs.declared.readings.Letter.TheVariants.{C, P, S, D, B, E}
+use Rattle.service.specs.declared.readings.RunEnd.{RunEnd}
+use Rattle.service.specs.declared.readings.RunEnd.TheVariants.{Wanted, RowsFull, SupplyEmpty}
+use Rattle.service.specs.Letters.{letter_is, run_end_is}
 use Rattle.service.specs.Rates.{rate_is}
 use Rattle.service.specs.Categories.{category_is, category_of}
 use Rattle.service.specs.Refusals.{Answer, refused, fault_is, refusal_is}
@@ -44,6 +49,13 @@ refusal_of a =
     ∷ [])
     a.number UnlawfulReel
 
+-- the letter of a byte from 66 on, B, C, D, E and then P at 80 and S at 83
+abbrev letter_of : ℕ → Letter
+letter_of n = get_or (B ∷ C ∷ D ∷ E ∷ B ∷ B ∷ B ∷ B ∷ B ∷ B ∷ B ∷ B ∷ B ∷ B ∷ P ∷ B ∷ B ∷ S ∷ []) (n - 66) B
+
+abbrev run_end_of : ℕ → RunEnd
+run_end_of n = get_or (Wanted ∷ Wanted ∷ RowsFull ∷ SupplyEmpty ∷ []) n Wanted
+
 pub category_of_number : (c : Category) → category_of (category_is c).number ≡ c
 category_of_number c = search rules
 
@@ -71,6 +83,8 @@ distinct_numbers = record {
   rates = apart (λ r. (rate_is r).number) rate_of (λ r. search rules);
   categories = apart (λ c. (category_is c).number) category_of category_of_number;
   numbered = λ c. (category_of_number c, search rules);
+  letters = apart (λ l. (letter_is l).byte) letter_of (λ l. search rules);
+  run_ends = apart run_end_is run_end_of (λ e. search rules);
   refusals = apart refusal_is refusal_of refusal_of_answer;
   every = every_number;
   only = λ r. search rules;

@@ -1,7 +1,8 @@
--- The seven categories in which a frame can arrive. Assumes nothing.
+-- The seven categories in which a frame can arrive.
 use Rattle.std.specs.Prelude.{ℕ, [], ◌∷◌, Some, None, Option, slice_index_or}
 use Rattle.service.specs.declared.rates.Rate.{Rate}
-use Rattle.service.specs.declared.rates.Rate.TheVariants.{Full as Rate1, Half as Rate1/2, Quarter as Rate1/4, Eighth as Rate1/8}
+use Rattle.service.specs.declared.rates.Rate.TheVariants.{Full as Rate1, Half as Rate1/2, Quarter as Rate1/4}
+use Rattle.service.specs.declared.rates.Rate.TheVariants.{Eighth as Rate1/8}
 use Rattle.service.specs.declared.categories.Category.{Category}
 use Rattle.service.specs.declared.categories.Category.TheVariants.{Blank, Eighth, Quarter, Half, Full, Suspect, Erasure}
 use Rattle.service.specs.Rates.{rate_is}

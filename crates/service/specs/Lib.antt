@@ -2,7 +2,9 @@ pub mod Rates
 pub mod Categories
 pub mod Letters
 pub mod Refusals
+pub mod FirstToFail
 pub mod Names
 pub mod Texts
 pub mod Tests
+pub mod Queues
 pub mod Distinct

@@ -1,4 +1,4 @@
--- The four rates of a voice packet. Assumes nothing.
+-- The four rates of a voice packet.
 use Rattle.std.specs.Prelude.{ℕ}
 use Rattle.service.specs.declared.rates.Rate.{Rate}
 use Rattle.service.specs.declared.rates.Rate.TheVariants.{Full, Half, Quarter, Eighth}

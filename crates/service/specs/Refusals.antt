@@ -1,9 +1,11 @@
--- The eighteen refusals: the number that a caller sees, and the place that it carries. Assumes nothing.
+-- The eighteen refusals: the number that a caller sees, and the place that it carries.
 use Rattle.std.specs.Prelude.{ℕ, Some, None, Option}
 use Rattle.service.specs.declared.refusals.Fault.{Fault}
-use Rattle.service.specs.declared.refusals.Fault.TheVariants.{Size, LengthField, RecordCount, Offsets, UnknownCategory, Length, Reserved, PastEnd, SpareBits}
+use Rattle.service.specs.declared.refusals.Fault.TheVariants.{Size, LengthField, RecordCount, Offsets, UnknownCategory}
+use Rattle.service.specs.declared.refusals.Fault.TheVariants.{Length, Reserved, PastEnd, SpareBits}
 use Rattle.service.specs.declared.refusals.Refusal.{Refusal}
-use Rattle.service.specs.declared.refusals.Refusal.TheVariants.{Faulty, Frequency, Pitch, Codebook, Draws, LineFull, NoArrival, ShortBuffer, Codes, UnlawfulReel}
+use Rattle.service.specs.declared.refusals.Refusal.TheVariants.{Faulty, Frequency, Pitch, Codebook, Draws, LineFull}
+use Rattle.service.specs.declared.refusals.Refusal.TheVariants.{NoArrival, ShortBuffer, Codes, UnlawfulReel}
 
 -- a place is a record for 5 to 9, an LSP for 10 and a subframe for 11 and 12
 pub record Answer : Type 0 where

@@ -1,4 +1,4 @@
--- What is printed of a category and of a refusal, byte by byte. Assumes nothing.
+-- What is printed of a category and of a refusal, byte by byte.
 use Rattle.std.specs.Prelude.{ℕ, List, ◌++◌, Some, None, codes, decimal, Option}
 use Rattle.service.specs.declared.categories.Category.{Category}
 use Rattle.service.specs.declared.categories.Category.TheVariants.{Blank, Eighth, Quarter, Half, Full, Suspect, Erasure}

@@ -13,8 +13,8 @@ pub use rates::Rate;
 pub use readings::{Letter, RunEnd};
 pub use refusals::{Fault, Refusal};
 
-/// Carries a theorem: no two rates and no two categories share a number, no two refusals a number and a
-/// place, and the numbers of the refusals are exactly those from 1 to 18.
+/// Carries a theorem: no two rates, no two categories and no two ends of a run share a number, no two letters a byte, no
+/// two refusals a number and a place, and the numbers of the refusals are exactly those from 1 to 18.
 #[tactic(auto, using(crate::proofs::Numbers::distinct_numbers))]
 pub fn distinct_numbers()
     ensures { DistinctNumbers }

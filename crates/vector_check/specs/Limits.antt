@@ -1,4 +1,4 @@
--- What packing into a buffer of a given length is answered, as text. Assumes nothing.
+-- What packing into a buffer of a given length is answered, as text.
 use Rattle.std.specs.Prelude.{◌≡◌, ℕ, ◌<◌, ◌≤◌, ◌⊎◌, List}
 use Rattle.service.specs.declared.rates.Rate.{Rate}
 use Rattle.service.specs.Rates.{rate_is}

@@ -1,4 +1,4 @@
--- One more case in a tally. Assumes nothing.
+-- One more case in a tally.
 use Rattle.std.specs.Prelude.{◌≡◌, ℕ, ◌+◌, ◌-◌, ◌^◌, min, Bool, true, false}
 use Rattle.vector_check.specs.declared.tallies.Tally.{Tally}
 

@@ -11,7 +11,7 @@ use packet_lines::{Request, answer, packet_text, read_line};
 use std::alloc::{AllocError, Global};
 
 /// The bytes of the largest output buffer of a case.
-const MOST_ROOM: usize = 64;
+const MAX_ROOM: usize = 64;
 
 /// The files of cases about packets.
 #[derive(Clone, Copy)]
@@ -101,7 +101,7 @@ impl Vectors<'_> {
             .context("pack-limits.txt has a line without a length")?;
         let room = room.parse::<usize>()?;
         ensure!(
-            room <= MOST_ROOM,
+            room <= MAX_ROOM,
             "pack-limits.txt has a buffer of more than 64 bytes"
         );
         let line = format!(in heap; "pack {codes}")?;
@@ -148,7 +148,7 @@ fn answer_in_room(
     requires { room ≤ 64 }
     ensures { IfOk result (λ s. AnswersInRoom rate numbers.now room (string_bytes s)) }
 {
-    let mut buffer = [0; MOST_ROOM];
+    let mut buffer = [0; MAX_ROOM];
     match packet::pack(rate, numbers, &mut buffer[..room]) {
         Ok(bytes) => packet_text(heap, &buffer[..bytes]),
         Err(refusal) => format!(in heap; "{refusal}"),

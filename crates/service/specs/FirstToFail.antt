@@ -1,5 +1,5 @@
--- The items of a frame that are tested in their order: its subframes, and for a sender its LSPs too. Item i + 1 stands at index
--- i. Assumes nothing.
+-- Items that are tested in their order, as the subframes of a frame, or its LSPs: which one a refusal names. Item i + 1
+-- stands at index i.
 use Rattle.std.specs.Prelude.{◌≡◌, ℕ, ◌+◌, ◌<◌, Bool, true, false}
 use Rattle.service.specs.Refusals.{Answer, refused_at}
 
