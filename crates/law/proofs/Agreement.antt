@@ -7,9 +7,9 @@ use Rattle.lsp.specs.Histories.{Event, after, packet, without_blanks}
 use Rattle.lsp.specs.Laws.{Agree}
 use Rattle.lsp.specs.States.{fresh}
 use Rattle.lsp.proofs.Runs.{ends_agree}
-use Rattle.law.specs.Readings.{Reading, event_read, packet_read}
-use Rattle.law.specs.Ends.{Taken}
-use Rattle.law.specs.Sending.{Sent}
+use Rattle.rules.specs.Readings.{Reading, event_read, packet_read}
+use Rattle.rules.specs.Ends.{Taken}
+use Rattle.rules.specs.Sending.{Sent}
 use Rattle.law.specs.Runs.{Frame, CallMade, arrivals_taken, frames_sent, sent_event, taken_event}
 use Rattle.law.specs.Law.{InARow, FrameLspTakenAsSent, IsSent, IsTaken, LspTakenAsSent, numbered, one_if_packet, packet_count, one_if_packet_frame}
 use Rattle.law.proofs.Timeline.{Spans, event_at, span}
@@ -38,14 +38,14 @@ module _ (h : List CallMade) (n : ℕ) where
   same_spans zero each =
       let p = each 0 (omega arith) in
       let q : n + 0 ≡ n = omega arith in
-      ap (λ o. event_at sent_event o ∷ []) (ap (numbered (frames_sent h)) (sym q) ∙ p.is_sent)
-      ∙ ap (λ e. e ∷ []) (same_event p.sent.what p.taken.what p.same)
-      ∙ ap (λ o. event_at taken_event o ∷ []) (sym p.is_taken ∙ ap (numbered (arrivals_taken h)) q)
+      ap (λ o. event_at sent_event o ∷ []) (ap (numbered (frames_sent h)) (sym q) ∙ p.pair.is_sent)
+      ∙ ap (λ e. e ∷ []) (same_event p.pair.sent.what p.pair.taken.what p.same)
+      ∙ ap (λ o. event_at taken_event o ∷ []) (sym p.pair.is_taken ∙ ap (numbered (arrivals_taken h)) q)
   same_spans (suc j) each =
       let p = each (suc j) (omega arith) in
-      ap₂ (λ o l. event_at sent_event o ∷ l) p.is_sent (same_spans j (λ i l. each i (omega arith)))
-      ∙ ap (λ e. e ∷ span taken_event (arrivals_taken h) n j) (same_event p.sent.what p.taken.what p.same)
-      ∙ ap (λ o. event_at taken_event o ∷ span taken_event (arrivals_taken h) n j) (sym p.is_taken)
+      ap₂ (λ o l. event_at sent_event o ∷ l) p.pair.is_sent (same_spans j (λ i l. each i (omega arith)))
+      ∙ ap (λ e. e ∷ span taken_event (arrivals_taken h) n j) (same_event p.pair.sent.what p.pair.taken.what p.same)
+      ∙ ap (λ o. event_at taken_event o ∷ span taken_event (arrivals_taken h) n j) (sym p.pair.is_taken)
 
   -- a packet is one event, a blank is none
   one_more : (o : Option (Frame (Option Sent))) (l : List Event) → length (without_blanks (event_at sent_event o ∷ l)) ≡ length (without_blanks l) + one_if_packet_frame o
@@ -71,10 +71,10 @@ module _ (h : List CallMade) (m m' : List ℤ) (e e' : ℕ) (sender : Spans sent
   agree n j f g row is_sent is_taken =
       let p = row.lsp_taken_as_sent 0 (omega arith) in
       let q : n + 0 ≡ n = omega arith in
-      let first_sent : IsSent h n p.sent = subst (λ k. IsSent h k p.sent) q p.is_sent in
-      let first_taken : IsTaken h n p.taken = subst (λ k. IsTaken h k p.taken) q p.is_taken in
-      let a = sender.between n j p.sent f first_sent is_sent (row.sender_era p.sent f first_sent is_sent) in
-      let b = receiver.between n j p.taken g first_taken is_taken (row.receiver_era p.taken g first_taken is_taken) in
+      let first_sent : IsSent h n p.pair.sent = subst (λ k. IsSent h k p.pair.sent) q p.pair.is_sent in
+      let first_taken : IsTaken h n p.pair.taken = subst (λ k. IsTaken h k p.pair.taken) q p.pair.is_taken in
+      let a = sender.between n j p.pair.sent f first_sent is_sent (row.sender_era p.pair.sent f first_sent is_sent) in
+      let b = receiver.between n j p.pair.taken g first_taken is_taken (row.receiver_era p.pair.taken g first_taken is_taken) in
       let same = same_spans h n j row.lsp_taken_as_sent in
       let agreed = ends_agree a.before b.before (span sent_event (frames_sent h) n j) (span taken_event (arrivals_taken h) n j) a.lawful b.lawful
       (record { same = ap without_blanks same; many = span_packets h n (frames_sent h) j ∙ row.many }) in

@@ -1,33 +1,19 @@
--- The guarded bits of a packet as a word: what changes, and what a changed bit of the packet is in its word.
-use Rattle.std.proofs.Common.{◌≡◌, ◌≢◌, ℕ, zero, suc, ◌+◌, ◌-◌, ◌*◌, ◌/◌, ◌%◌, ◌^◌, ◌<◌, if◌then◌else◌, ◌==◌, Bool, true, not, ◌&&◌, nat_lt, List, [], ◌∷◌, length, take, bit_xor, count_ones, slice_index, set, inl, inr, refl, sym, ap, ap₂, ◌∙◌, arith, pow-suc, mul_assoc, one-mul}
-use Rattle.std.specs.Int.Bits.{xor_assoc, xor_block, xor_lt, xor_mod, xor_self, xor_shr, xor_zero_r}
-use Rattle.std.proofs.lemmas.Bool.{and_parts, cases_eq}
-use Rattle.std.proofs.lemmas.Bool.Decides.{nat_tests}
-use Rattle.std.proofs.lemmas.List.{ext_get_or, get_or-set_other, get_or-set_same, get_or-take, length-set}
-use Rattle.std.proofs.lemmas.Nat.{ones_cat, xor_comm}
-use Rattle.service.specs.declared.rates.Rate.TheVariants.{Full}
-use Rattle.service.specs.Rates.{rate_is}
-use Rattle.cyclic.specs.Words.{corrected, cyclic_bits, differing}
+-- How many guarded bits of a packet changed, in its bytes and in its word.
+use Rattle.std.proofs.Common.{◌≡◌, ℕ, zero, suc, ◌+◌, ◌*◌, ◌/◌, ◌^◌, ◌<◌, if◌then◌else◌, ◌==◌, List, [], ◌∷◌, length, take, bit_xor, count_ones, refl, sym, ap, ap₂, ◌∙◌, arith, pow-suc, mul_assoc}
+use Rattle.std.specs.Int.Bits.{xor_block, xor_lt, xor_self, xor_shr, xor_zero_r}
+use Rattle.std.proofs.lemmas.List.{get_or-take}
+use Rattle.std.proofs.lemmas.Nat.{ones_cat}
+use Rattle.cyclic.specs.Words.{cyclic_bits, differing}
 use Rattle.cyclic.proofs.Changes.{ones_bit}
-use Rattle.cyclic.proofs.Linear.{swap, xor_twice}
+use Rattle.cyclic.proofs.Linear.{swap}
 use Rattle.packet_layout.specs.Guarded.{guarded_bits}
-use Rattle.packet_layout.specs.Laws.{place}
-use Rattle.packet.specs.Bits.{bit, bit_at, number_of}
+use Rattle.packet.specs.Bits.{number_of}
+use Rattle.packet.specs.Changes.{packet_bit}
 use Rattle.packet.specs.CheckBits.{inversion, word_of}
-use Rattle.packet.proofs.Numbers.{bit_lt, number_lt, number_more, number_same, shifted_elsewhere, shifted_here}
-use Rattle.law.specs.GuardedBits.{with_place_changed, changed_besides_pcb0, changed_guarded, corrected_packet, differing_bits, packet_bit, with_bit_changed}
-use Rattle.law.specs.Words.{ChangesOfWords, OneBitChanged}
-
--- ---- the number of the packet bits of a list of numbers
-
-pub packet_bit_lt : (n : ℕ) (xs : List ℕ) → packet_bit n xs < 2
-packet_bit_lt n xs = bit_lt (slice_index xs (place Full n / 8)) (7 - place Full n % 8)
-
-abbrev pub listed : List ℕ → List ℕ → ℕ → ℕ
-listed ns xs i = packet_bit (slice_index ns i) xs
-
-listed_lt : (ns xs : List ℕ) (i : ℕ) → listed ns xs i < 2
-listed_lt ns xs i = packet_bit_lt (slice_index ns i) xs
+use Rattle.packet.proofs.Changed.{guarded_length, listed, listed_lt, packet_bit_lt}
+use Rattle.packet.proofs.Numbers.{number_lt, number_more, number_same}
+use Rattle.rules.specs.GuardedBits.{changed_besides_pcb0, changed_guarded, differing_bits}
+use Rattle.law.specs.Changes.{ChangesOfWords}
 
 -- the first bit is the highest
 number_first : (f : ℕ → ℕ) (n : ℕ) → number_of f (suc n) ≡ f 0 * 2 ^ n + number_of (λ i. f (suc i)) n
@@ -68,9 +54,6 @@ differing_is (n ∷ ns) xs ys =
 
 -- ---- the 29 guarded bits, and the 28
 
-pub guarded_lt : (xs : List ℕ) → number_of (listed guarded_bits xs) 29 < 2 ^ 29
-guarded_lt xs = number_lt (listed guarded_bits xs) (listed_lt guarded_bits xs) 29
-
 -- the inversion cancels
 words_differ : (xs ys : List ℕ) → bit_xor (word_of xs) (word_of ys) ≡ bit_xor (number_of (listed guarded_bits xs) 29) (number_of (listed guarded_bits ys) 29)
 unfolding word_of
@@ -78,10 +61,6 @@ words_differ xs ys =
     let u = number_of (listed guarded_bits xs) 29 in
     let v = number_of (listed guarded_bits ys) 29 in
     swap u inversion v inversion ∙ ap (bit_xor (bit_xor u v)) (xor_self inversion) ∙ xor_zero_r (bit_xor u v)
-
-pub guarded_length : length guarded_bits ≡ 29
-unfolding guarded_bits
-guarded_length = refl
 
 pub changed_all : (xs ys : List ℕ) → changed_guarded xs ys ≡ differing (word_of xs) (word_of ys)
 changed_all xs ys =
@@ -111,165 +90,5 @@ changed_front xs ys =
     ∙ ap₂ (λ m n. count_ones (bit_xor m n)) (front_is xs) (front_is ys)
     ∙ ap count_ones (sym (xor_shr u v 1) ∙ ap (λ n. n / 2) (sym (words_differ xs ys)) ∙ xor_shr (word_of xs) (word_of ys) 1)
 
--- ---- one bit of a packet changed
-
-bit_of_xor : (m n b : ℕ) → bit (bit_xor m n) b ≡ bit_xor (bit m b) (bit n b)
-bit_of_xor m n b = ap (λ x. x % 2) (xor_shr m n b) ∙ xor_mod (m / 2 ^ b) (n / 2 ^ b) 1
-
-xor_here : (m b : ℕ) → bit (bit_xor m (2 ^ b)) b ≡ bit_xor (bit m b) 1
-xor_here m b = bit_of_xor m (2 ^ b) b ∙ ap (bit_xor (bit m b)) (ap (λ x. bit x b) (sym (one-mul (2 ^ b))) ∙ shifted_here 1 b (omega arith))
-
-xor_elsewhere : (m b c : ℕ) → c ≢ b → bit (bit_xor m (2 ^ b)) c ≡ bit m c
-xor_elsewhere m b c ne =
-    bit_of_xor m (2 ^ b) c ∙ ap (bit_xor (bit m c)) (ap (λ x. bit x c) (sym (one-mul (2 ^ b))) ∙ shifted_elsewhere 1 b c (omega arith) ne)
-    ∙ xor_zero_r (bit m c)
-
-change_here : (k : ℕ) (xs : List ℕ) → k / 8 < length xs → bit_at (with_place_changed k xs) k ≡ bit_xor (bit_at xs k) 1
-change_here k xs h =
-    let b = slice_index xs (k / 8) in
-    let i = 7 - k % 8 in
-    ap (λ n. bit n i) (get_or-set_same xs (k / 8) (bit_xor b (2 ^ i)) 0 h) ∙ xor_here b i
-
-pub change_elsewhere : (k j : ℕ) (xs : List ℕ) → k / 8 < length xs → j ≢ k → bit_at (with_place_changed k xs) j ≡ bit_at xs j
-change_elsewhere k j xs h ne =
-    let b = slice_index xs (k / 8) in
-    let i = 7 - j % 8 in
-    let v = bit_xor b (2 ^ (7 - k % 8)) in
-    elim (cases_eq (j / 8) (k / 8)) [
-      | inl e ↦
-          let apart : i ≢ 7 - k % 8 = λ f. ne (omega (arith, e, f)) in
-          ap (λ q. bit (slice_index (set xs (k / 8) v) q) i) e
-          ∙ ap (λ n. bit n i) (get_or-set_same xs (k / 8) v 0 h)
-          ∙ xor_elsewhere b (7 - k % 8) i apart
-          ∙ ap (λ q. bit (slice_index xs q) i) (sym e)
-      | inr f ↦ ap (λ n. bit n i) (get_or-set_other xs (k / 8) (j / 8) v 0 f)
-    ]
-
-change_back : (k : ℕ) (xs : List ℕ) → k / 8 < length xs → with_place_changed k (with_place_changed k xs) ≡ xs
-change_back k xs h =
-    let t = k / 8 in
-    let m = 2 ^ (7 - k % 8) in
-    let b = slice_index xs t in
-    let once = with_place_changed k xs in
-    let same : length once ≡ length xs = length-set xs t (bit_xor b m) in
-    let here : slice_index once t ≡ bit_xor b m = get_or-set_same xs t (bit_xor b m) 0 h in
-    ext_get_or 0 (with_place_changed k once) xs (length-set once t (bit_xor (slice_index once t) m) ∙ same)
-    (λ i l. elim (cases_eq i t) [
-      | inl e ↦
-          ap (slice_index (with_place_changed k once)) e
-          ∙ get_or-set_same once t (bit_xor (slice_index once t) m) 0 (omega (arith, same))
-          ∙ ap (λ n. bit_xor n m) here ∙ xor_twice b m ∙ ap (slice_index xs) (sym e)
-      | inr ne ↦ get_or-set_other once t i (bit_xor (slice_index once t) m) 0 ne ∙ get_or-set_other xs t i (bit_xor b m) 0 ne
-    ])
-
-pub one_bit_changed : (packet : List ℕ) (n : ℕ) → length packet ≡ (rate_is Full).bytes → n < (rate_is Full).bits → OneBitChanged packet n
-unfolding with_bit_changed
-one_bit_changed xs n long h =
-    let k = place Full n in
-    let l : k / 8 < length xs = omega arith in
-    record {
-      size = length-set xs (k / 8) (bit_xor (slice_index xs (k / 8)) (2 ^ (7 - k % 8)));
-      bit = change_here k xs l;
-      others = λ m hm ne. change_elsewhere k (place Full m) xs l (λ e. ne (omega (arith, e)));
-      back = change_back k xs l;
-    }
-
--- ---- the word of a corrected packet
-
--- one bit of a number of n bits changed
-number_changed : (f g : ℕ → ℕ) (n k : ℕ) → ((i : ℕ) → f i < 2) → k < n → g k ≡ bit_xor (f k) 1 → ((i : ℕ) → i < n → i ≢ k → g i ≡ f i)
-    → number_of g n ≡ bit_xor (number_of f n) (2 ^ (n - 1 - k))
-unfolding number_of
-number_changed f g zero k small h here others = absurd (omega arith)
-number_changed f g (suc n) k small h here others =
-    let u = number_of f n in
-    elim (cases_eq k n) [
-      | inl e ↦
-          let last : suc n - 1 - k ≡ 0 = omega (arith, e) in
-          let b = f n in
-          let same : number_of g n ≡ u = number_same g f n (λ i hi. others i (omega arith) (omega (arith, e))) in
-          let changed : g n ≡ bit_xor b 1 = ap g (sym e) ∙ here ∙ ap (λ i. bit_xor (f i) 1) e in
-          ap₂ (λ m t. m * 2 + t) same changed
-          ∙ ap (λ m. m * 2 + bit_xor b 1) (sym (xor_zero_r u))
-          ∙ sym (xor_block 1 u 0 b 1 (small n) (omega arith))
-          ∙ ap (λ t. bit_xor (u * 2 + b) (2 ^ t)) (sym last)
-      | inr ne ↦
-          let t = n - 1 - k in
-          let next : suc n - 1 - k ≡ suc t = omega (arith, ne) in
-          let p : 2 ^ suc t ≡ 2 ^ t * 2 + 0 = omega (arith, pow-suc 2 t) in
-          let b = f n in
-          let same = number_changed f g n k small (omega (arith, ne)) here (λ i hi. others i (omega arith)) in
-          ap₂ (λ m s. m * 2 + s) same (others n (omega arith) (λ e. ne (sym e)) ∙ sym (xor_zero_r b))
-          ∙ sym (xor_block 1 u (2 ^ t) b 0 (small n) (omega arith))
-          ∙ ap (bit_xor (u * 2 + b)) (sym p ∙ ap (λ s. 2 ^ s) (sym next))
-    ]
-
--- no two of the guarded bits are the same, and each is one of the packet's
-absent : ℕ → List ℕ → Bool
-absent q [] = true
-absent q (p ∷ ps) = not (p == q) && absent q ps
-
-distinct : List ℕ → Bool
-distinct [] = true
-distinct (p ∷ ps) = nat_lt p 171 && absent p ps && distinct ps
-
-not_equal : (p q : ℕ) → not (p == q) ≡ true → p ≢ q
-not_equal p q t e = grind (arith, nat_tests)
-
-absent_at : (q : ℕ) (ps : List ℕ) → absent q ps ≡ true → (k : ℕ) → k < length ps → slice_index ps k ≢ q
-unfolding absent
-absent_at q [] t k h = absurd (omega arith)
-absent_at q (p ∷ ps) t zero h = not_equal p q (and_parts (not (p == q)) (absent q ps) t).0
-absent_at q (p ∷ ps) t (suc k) h = absent_at q ps (and_parts (not (p == q)) (absent q ps) t).1 k (omega arith)
-
-distinct_parts : (p : ℕ) (ps : List ℕ) → distinct (p ∷ ps) ≡ true → (nat_lt p 171 ≡ true) × (absent p ps ≡ true) × (distinct ps ≡ true)
-unfolding distinct
-distinct_parts p ps t =
-    let u = and_parts (nat_lt p 171 && absent p ps) (distinct ps) t in
-    let v = and_parts (nat_lt p 171) (absent p ps) u.0 in
-    (v.0, v.1, u.1)
-
-distinct_at : (ps : List ℕ) → distinct ps ≡ true → (i j : ℕ) → i < length ps → j < length ps → i ≢ j → slice_index ps i ≢ slice_index ps j
-distinct_at [] t i j hi hj ne = absurd (omega arith)
-distinct_at (p ∷ ps) t zero zero hi hj ne = absurd (ne refl)
-distinct_at (p ∷ ps) t zero (suc j) hi hj ne = λ e. absent_at p ps (distinct_parts p ps t).1 j (omega arith) (sym e)
-distinct_at (p ∷ ps) t (suc i) zero hi hj ne = absent_at p ps (distinct_parts p ps t).1 i (omega arith)
-distinct_at (p ∷ ps) t (suc i) (suc j) hi hj ne = distinct_at ps (distinct_parts p ps t).2 i j (omega arith) (omega arith) (λ e. ne (ap suc e))
-
-small_at : (ps : List ℕ) → distinct ps ≡ true → (i : ℕ) → i < length ps → slice_index ps i < 171
-small_at [] t i h = absurd (omega arith)
-small_at (p ∷ ps) t zero h = let s = (distinct_parts p ps t).0 in grind (arith, nat_tests)
-small_at (p ∷ ps) t (suc i) h = small_at ps (distinct_parts p ps t).2 i (omega arith)
-
-all_distinct : distinct guarded_bits ≡ true
-unfolding guarded_bits distinct absent
-all_distinct = refl
-
-pub guarded_apart : (i j : ℕ) → i < 29 → j < 29 → i ≢ j → slice_index guarded_bits i ≢ slice_index guarded_bits j
-guarded_apart i j hi hj = distinct_at guarded_bits all_distinct i j (omega (arith, guarded_length)) (omega (arith, guarded_length))
-
-pub guarded_small : (i : ℕ) → i < 29 → slice_index guarded_bits i < 171
-guarded_small i h = small_at guarded_bits all_distinct i (omega (arith, guarded_length))
-
--- to change guarded bit i of a packet changes the bit of its word that is i places from the top
-pub word_changed : (xs : List ℕ) (i : ℕ) → length xs ≡ (rate_is Full).bytes → i < 29
-    → word_of (with_bit_changed (slice_index guarded_bits i) xs) ≡ bit_xor (word_of xs) (2 ^ (28 - i))
-unfolding word_of
-word_changed xs i long h =
-    let n = slice_index guarded_bits i in
-    let ys = with_bit_changed n xs in
-    let u = number_of (listed guarded_bits xs) 29 in
-    let m = 2 ^ (28 - i) in
-    let law = one_bit_changed xs n long (guarded_small i h) in
-    let e : number_of (listed guarded_bits ys) 29 ≡ bit_xor u m =
-    number_changed (listed guarded_bits xs) (listed guarded_bits ys) 29 i (listed_lt guarded_bits xs) h law.bit
-    (λ j hj ne. law.others (slice_index guarded_bits j) (guarded_small j hj) (guarded_apart j i hj h ne)) in
-    ap (λ w. bit_xor w inversion) e ∙ xor_assoc u m inversion ∙ ap (bit_xor u) (xor_comm m inversion) ∙ sym (xor_assoc u inversion m)
-
-pub word_corrected : (xs : List ℕ) (p : ℕ) → length xs ≡ (rate_is Full).bytes → p < 28 → word_of (corrected_packet p xs) ≡ corrected (word_of xs) p
-word_corrected xs p long h =
-    let e : 28 - (27 - p) ≡ p + 1 = omega arith in
-    word_changed xs (27 - p) long (omega arith) ∙ ap (λ n. bit_xor (word_of xs) (2 ^ n)) e
-
 pub changes_of_words : ChangesOfWords
-changes_of_words = record { guarded = changed_all; besides_pcb0 = changed_front; changed = one_bit_changed; corrected = word_corrected }
+changes_of_words = record { guarded = changed_all; besides_pcb0 = changed_front }

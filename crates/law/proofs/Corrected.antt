@@ -27,10 +27,10 @@ use Rattle.packet.specs.CheckBits.{message_of, word_of}
 use Rattle.packet.specs.Codes.{Within, in_order}
 use Rattle.packet.proofs.Packets.{each_bit}
 use Rattle.packet.proofs.Trips.{guarded_word, unpacking_returns}
-use Rattle.law.specs.Arrivals.{is_lawful}
-use Rattle.law.specs.GuardedBits.{bit_of_power, with_place_changed, corrected_packet, with_bit_changed}
+use Rattle.rules.specs.Arrivals.{is_lawful}
 use Rattle.law.proofs.Sent.{are_bytes_of, lawful_of}
-use Rattle.law.proofs.Changes.{change_elsewhere, guarded_small, one_bit_changed, word_changed, word_corrected}
+use Rattle.packet.proofs.Changed.{change_elsewhere, guarded_small, one_bit_changed, word_changed, word_corrected}
+use Rattle.packet.specs.Changes.{bit_of_power, corrected_packet, with_bit_changed, with_place_changed}
 
 -- ---- any packet of 22 bytes
 

@@ -1,28 +1,28 @@
 -- What a link's own line delivers.
 use Rattle.std.proofs.Common.{◌≡◌, ℕ, ◌+◌, ◌-◌, List, [], ◌∷◌, ◌++◌, length, map, Ok, Err, Some, None, Option, ℤ, refl, sym, ap, ◌∙◌, append_assoc, append-nil, arith}
 use Rattle.std.proofs.lemmas.List.{length-append, length-map, map-append}
-use Rattle.law.specs.Arrivals.{Arrival}
-use Rattle.law.specs.Ends.{Taken}
-use Rattle.law.specs.Sending.{Sent}
-use Rattle.law.specs.Links.{Line, Link, arrival_put, supply_left, this_line, to_come, to_come_from}
+use Rattle.rules.specs.Arrivals.{Arrival, arrival_made}
+use Rattle.rules.specs.Ends.{Taken}
+use Rattle.rules.specs.Sending.{Sent}
+use Rattle.rules.specs.Links.{Line, Link, source_left, this_line, to_come, to_come_from}
 use Rattle.law.specs.Runs.{Call, CallMade, Send, Blank, Disturb, Take, RestartSender, RestartReceiver, Frame, Role, frame, restarts, nothing, Run, Step, arrivals_taken, frame_of_role, frames_sent, now, receiver_role, restarts_at, sender_role, the_receiver, the_sender}
 use Rattle.law.specs.Keeping.{DisturbsNothing, OwnLineDelivers, IsUndisturbed, StartsEmpty, arrival_of_frame}
 use Rattle.law.proofs.Keeping.{set_length}
 use Rattle.law.proofs.Steps.{blank_refused}
 
 -- the link goes on to take from its own line
-still_own : (s t : Link) (c : Call) → Step s c t → s.supply ≡ this_line → t.supply ≡ this_line
-still_own s t (Send n p r) h own = ap (λ l. l.supply) h.1 ∙ own
-still_own s t (Blank r) h own = ap (λ l. l.supply) h.1 ∙ own
-still_own s t (Disturb n c bytes r) h own = ap (λ l. l.supply) h.1 ∙ own
-still_own s t (Take x) h own = ap (λ l. l.supply) h.1 ∙ ap (λ u. supply_left u (to_come t)) own
-still_own s t RestartSender h own = ap (λ l. l.supply) h ∙ own
-still_own s t RestartReceiver h own = ap (λ l. l.supply) h ∙ own
+still_own : (s t : Link) (c : Call) → Step s c t → s.source ≡ this_line → t.source ≡ this_line
+still_own s t (Send n p r) h own = ap (λ l. l.source) h.1 ∙ own
+still_own s t (Blank r) h own = ap (λ l. l.source) h.1 ∙ own
+still_own s t (Disturb n c bytes r) h own = ap (λ l. l.source) h.1 ∙ own
+still_own s t (Take x) h own = ap (λ l. l.source) h.1 ∙ ap (λ u. source_left u (to_come t)) own
+still_own s t RestartSender h own = ap (λ l. l.source) h ∙ own
+still_own s t RestartReceiver h own = ap (λ l. l.source) h ∙ own
 
-own_line : (s : Link) → s.supply ≡ this_line → to_come s ≡ s.line.waiting
+own_line : (s : Link) → s.source ≡ this_line → to_come s ≡ s.line.waiting
 own_line s own = ap (λ u. to_come_from u s.line) own
 
-pub own_supply : (s : Link) (h : List CallMade) → s.supply ≡ this_line → Run s h → (now s h).supply ≡ this_line
+pub own_supply : (s : Link) (h : List CallMade) → s.source ≡ this_line → Run s h → (now s h).source ≡ this_line
 own_supply s [] own r = own
 own_supply s (m ∷ h) own r = still_own (now s h) m.link m.call r.0 (own_supply s h own r.1)
 
@@ -72,7 +72,7 @@ Flows before joins taken after = before ++ joins ≡ taken ++ after
 as_before : (line line' : Line) → line' ≡ line → Flows line.waiting [] [] line'.waiting
 as_before line line' e = append-nil line.waiting ∙ ap (λ l. l.waiting) (sym e)
 
-flows : (s t : Link) (c : Call) → s.supply ≡ this_line → DisturbsNothing c → Step s c t → Flows s.line.waiting (sent_by (sender_role c)) (taken_by (receiver_role c)) t.line.waiting
+flows : (s t : Link) (c : Call) → s.source ≡ this_line → DisturbsNothing c → Step s c t → Flows s.line.waiting (sent_by (sender_role c)) (taken_by (receiver_role c)) t.line.waiting
 flows s t (Send n p (Ok f)) own calm h = ap (λ l. l.waiting) (sym h.0.1.line_after)
 flows s t (Send n p (Err e)) own calm h = as_before s.line t.line h.0.3
 flows s t (Blank (Ok u)) own calm h = ap (λ l. l.waiting) (sym h.0.2)
@@ -92,10 +92,10 @@ as_many : (s t : Link) (c : Call) → Flows s.line.waiting (sent_by (sender_role
 as_many s t c e =
     sym (length-append s.line.waiting (sent_by (sender_role c))) ∙ ap length e ∙ length-append (taken_by (receiver_role c)) t.line.waiting
 
-flows_many : (s t : Link) (c : Call) → s.supply ≡ this_line → Step s c t
+flows_many : (s t : Link) (c : Call) → s.source ≡ this_line → Step s c t
     → length s.line.waiting + length (sent_by (sender_role c)) ≡ length (taken_by (receiver_role c)) + length t.line.waiting
 flows_many s t (Disturb n c bytes (Ok u)) own h =
-    let e = ap (λ l. length l.waiting) h.0.line_after in omega (arith, e, set_length s.line.waiting (n - 1) (arrival_put c bytes))
+    let e = ap (λ l. length l.waiting) h.0.line_after in omega (arith, e, set_length s.line.waiting (n - 1) (arrival_made c bytes))
 flows_many s t (Send n p r) own h = as_many s t (Send n p r) (flows s t (Send n p r) own tt h)
 flows_many s t (Blank r) own h = as_many s t (Blank r) (flows s t (Blank r) own tt h)
 flows_many s t (Disturb n c bytes (Err e)) own h = as_many s t (Disturb n c bytes (Err e)) (flows s t (Disturb n c bytes (Err e)) own tt h)
@@ -116,7 +116,7 @@ module _ (s : Link) (empty : StartsEmpty s) where
       sent_more m h
       ∙ ap (λ l. l ++ joins) before
       ∙ append_assoc (taken_list h) w joins
-      ∙ ap (λ l. taken_list h ++ l) (flows (now s h) m.link m.call (own_supply s h empty.supply r.1) calm.0 r.0)
+      ∙ ap (λ l. taken_list h ++ l) (flows (now s h) m.link m.call (own_supply s h empty.source r.1) calm.0 r.0)
       ∙ sym (append_assoc (taken_list h) takes m.link.line.waiting)
       ∙ ap (λ l. l ++ m.link.line.waiting) (sym (taken_more m h))
 
@@ -124,7 +124,7 @@ module _ (s : Link) (empty : StartsEmpty s) where
   delivered_many [] r = let e = ap length empty.waiting in omega arith
   delivered_many (m ∷ h) r =
       let before = delivered_many h r.1 in
-      let more = flows_many (now s h) m.link m.call (own_supply s h empty.supply r.1) r.0 in
+      let more = flows_many (now s h) m.link m.call (own_supply s h empty.source r.1) r.0 in
       let joins = sent_by (sender_role m.call) in
       let takes = taken_by (receiver_role m.call) in
       omega (arith, ap length (sent_more m h) ∙ length-append (sent_list h) joins, ap length (taken_more m h) ∙ length-append (taken_list h) takes, before, more)

@@ -11,11 +11,12 @@ use Rattle.figures.specs.declared.pitch.PitchCodes.{PitchCodes}
 use Rattle.figures.specs.Pitch.{EncodesPitches, pair_at, pitch_codes as pitch_code}
 use Rattle.figures.specs.Codebook.{EncodesCodebooks, codebook_codes as codebook_code, parameter_at}
 use Rattle.figures.proofs.Frames.{one_codebook_answer, one_pitch_answer}
-use Rattle.law.specs.Readings.{codebook_codes_in, pitch_codes_in}
-use Rattle.law.specs.Sending.{AreComplete, CodebooksAllowed, Draws, Encodes, FirstNotAllOnes, NoDraw, AllOnesAtDraw, Parameters, PitchesAllowed, cbseed_of, drawn, most_draws, offsets, with_cbseed}
+use Rattle.rules.specs.Readings.{codebook_codes_in, pitch_codes_in}
+use Rattle.rules.specs.Sending.{AreComplete, CodebooksAllowed, DrawsCbseed, Encodes, FirstNotAllOnes, AllDrawsAllOnes, AllOnesAtDraw, Parameters, PitchesAllowed, cbseed_of, drawn, max_draws}
 use Rattle.law.proofs.Filled.{filled, filled_front, filled_length, filled_past}
 use Rattle.law.proofs.Searches.{all_or_first, first_once}
 use Rattle.law.proofs.OneReading.{codebook_subframes_le, known_ones, pitch_subframes_le}
+use Rattle.lsp.specs.Offsets.{offsets}
 
 -- ---- there are codes
 
@@ -81,7 +82,7 @@ module _ (rate : Rate) (p : Parameters) (m : List ℤ) where
 
 -- the codes without CBSEED
 abbrev pub unseeded : CodeNumbers → CodeNumbers
-unseeded c = with_cbseed 0 c
+unseeded c = record c { cbseed = 0 }
 
 abbrev codes_from : List ℕ → PitchCodes → CodebookCodes → CodeNumbers
 codes_from lsp p b = record { lsp = lsp; plag = p.plag; pgain = p.pgain; cbindex = b.cbindex; cbgain = b.cbgain; cbseed = 0 }
@@ -93,7 +94,7 @@ encoded_once rate p m c c' a b =
     ∙ ap (λ x. codes_from c'.lsp (pitch_codes_in c') x) (one_codebook_answer.encoded rate p.codebooks (codebook_codes_in c) (codebook_codes_in c') a.codebook b.codebook)
 
 pub same_codes : (c c' : CodeNumbers) → unseeded c ≡ unseeded c' → c.cbseed ≡ c'.cbseed → c ≡ c'
-same_codes c c' e seeds = ap (λ x. with_cbseed c.cbseed x) e ∙ ap (λ k. with_cbseed k c') seeds
+same_codes c c' e seeds = ap (λ (x : CodeNumbers). record x { cbseed = c.cbseed }) e ∙ ap (λ k. record c' { cbseed = k }) seeds
 
 -- ---- the draws
 
@@ -102,11 +103,11 @@ pub same_draw : (c c' : CodeNumbers) (seed k : ℕ) → unseeded c ≡ unseeded 
 same_draw c c' seed k e ones = subst (λ d. AllOnesAtDraw d seed k) e ones
 
 known_draw : (c : CodeNumbers) (seed k : ℕ) → AllOnesAtDraw c seed k ⊎ (AllOnesAtDraw c seed k → ⊥)
-known_draw c seed k = known_ones Eighth (packet Eighth (with_cbseed (cbseed_of (drawn k seed)) c))
+known_draw c seed k = known_ones Eighth (packet Eighth (record c { cbseed = cbseed_of (drawn k seed) }))
 
 -- some draw does not give all ones, or they all do
-pub draws_or_none : (c : CodeNumbers) (seed : ℕ) → ((n : ℕ) × FirstNotAllOnes c seed n) ⊎ ((k : ℕ) → 1 ≤ k → k ≤ most_draws → AllOnesAtDraw c seed k)
-draws_or_none c seed = elim (all_or_first (AllOnesAtDraw c seed) (known_draw c seed) 1 (most_draws + 1)) [
+pub draws_or_none : (c : CodeNumbers) (seed : ℕ) → ((n : ℕ) × FirstNotAllOnes c seed n) ⊎ ((k : ℕ) → 1 ≤ k → k ≤ max_draws → AllOnesAtDraw c seed k)
+draws_or_none c seed = elim (all_or_first (AllOnesAtDraw c seed) (known_draw c seed) 1 (max_draws + 1)) [
   | inl all ↦ inr (λ k l h. all k l (omega arith))
   | inr (n, l, h, before, fails) ↦ inl (n, record { some = l; most = omega arith; before = before; at = fails })
 ]
@@ -116,7 +117,7 @@ first_not_ones_once c c' seed n n' e f g =
     first_once (AllOnesAtDraw c seed) 1 n n' f.some g.some f.before f.at
     (λ k l h. same_draw c' c seed k (sym e) (g.before k l h)) (λ ones. g.at (same_draw c c' seed n' e ones))
 
-pub draws_once : (rate : Rate) (c c' : CodeNumbers) (seed n n' : ℕ) → unseeded c ≡ unseeded c' → Draws rate c seed n → Draws rate c' seed n' → (n ≡ n') × (c.cbseed ≡ c'.cbseed)
+pub draws_once : (rate : Rate) (c c' : CodeNumbers) (seed n n' : ℕ) → unseeded c ≡ unseeded c' → DrawsCbseed rate c seed n → DrawsCbseed rate c' seed n' → (n ≡ n') × (c.cbseed ≡ c'.cbseed)
 draws_once Eighth c c' seed n n' e (f, is) (g, is') =
     let same = first_not_ones_once c c' seed n n' e f g in
     (same, is ∙ ap (λ k. cbseed_of (drawn k seed)) same ∙ sym is')
@@ -125,7 +126,7 @@ draws_once Half c c' seed n n' e (f, is) (g, is') = (f ∙ sym g, is ∙ sym is'
 draws_once Full c c' seed n n' e (f, is) (g, is') = (f ∙ sym g, is ∙ sym is')
 
 -- where no draw is left, none is made
-pub no_draw_made : (rate : Rate) (p : Parameters) (m : List ℤ) (c : CodeNumbers) (seed n : ℕ) → NoDraw rate p m seed → Encodes rate p m c → Draws rate c seed n → ⊥
+pub no_draw_made : (rate : Rate) (p : Parameters) (m : List ℤ) (c : CodeNumbers) (seed n : ℕ) → AllDrawsAllOnes rate p m seed → Encodes rate p m c → DrawsCbseed rate c seed n → ⊥
 no_draw_made Eighth p m c seed n (d, e, ones) e' (f, is) =
     f.at (same_draw d c seed n (encoded_once Eighth p m d c e e') (ones n f.some f.most))
 no_draw_made Quarter p m c seed n none e d = none
@@ -134,7 +135,7 @@ no_draw_made Full p m c seed n none e d = none
 
 -- the codes and the draws, or no draw
 pub codes_or_none : (rate : Rate) (p : Parameters) (m : List ℤ) (seed : ℕ) → AreComplete p → PitchesAllowed rate p → CodebooksAllowed rate p
-    → ((c : CodeNumbers) × (n : ℕ) × Encodes rate p m c × Draws rate c seed n) ⊎ NoDraw rate p m seed
+    → ((c : CodeNumbers) × (n : ℕ) × Encodes rate p m c × DrawsCbseed rate c seed n) ⊎ AllDrawsAllOnes rate p m seed
 codes_or_none Eighth p m seed complete pitches codebooks = elim (draws_or_none (codes_of Eighth p m 0) seed) [
   | inl (n, f) ↦
       inl (

@@ -3,11 +3,11 @@ use Rattle.std.proofs.Common.{◌≡◌, ℕ, List, [], ◌∷◌, ◌++◌, len
 use Rattle.lsp.specs.Histories.{Event, after, blank, erasure, packet as packet_event, restart}
 use Rattle.lsp.specs.States.{fresh}
 use Rattle.packet.specs.Codes.{Within}
-use Rattle.law.specs.Ends.{Taken}
-use Rattle.law.specs.Links.{Link}
-use Rattle.law.specs.Sending.{Sent}
+use Rattle.rules.specs.Ends.{Taken}
+use Rattle.rules.specs.Links.{Link}
+use Rattle.rules.specs.Sending.{Sent}
 use Rattle.law.specs.Runs.{CallMade, New, Run, Step, now, events_at, the_receiver, the_sender}
-use Rattle.law.specs.Law.{EveryRun, EveryRunCarries, EveryStepCarries, AtMostFourChanged, GuardedBitsHold, Law, RunsJoin}
+use Rattle.law.specs.Law.{EveryRun, EveryRunCarries, EveryRunThroughout, EveryStepCarries, AtMostFourChanged, GuardedBitsHold, Law, RunsJoin}
 use Rattle.law.specs.Keeping.{EveryRunKeeps, Kept}
 use Rattle.law.proofs.Agreement.{agree}
 use Rattle.law.proofs.Facts.{IsPacket, WasRead, packet_facts, sent_facts, taken_facts}
@@ -34,10 +34,9 @@ module _ (s : Link) (new : New s) (h : List CallMade) (r : Run s h) where
 
   guarded_bits : (n : ℕ) (f : Sent) (x : Taken) → AtMostFourChanged h n f x → GuardedBitsHold f x
   guarded_bits n f x w =
-      let (a, is_sent, what) = w.frame in
-      let (b, is_taken, read) = w.arrival in
-      let p = packet_facts f (subst IsPacket what (sent_facts s h new r n a is_sent)) in
-      let q = subst WasRead read (taken_facts s h new r n b is_taken) in
+      let pair = w.pair in
+      let p = packet_facts f (subst IsPacket w.frame (sent_facts s h new r n pair.sent pair.is_sent)) in
+      let q = subst WasRead w.arrival (taken_facts s h new r n pair.taken pair.is_taken) in
       guarded_bits_hold f x w.rate (subst (λ rate. Within rate f.codes) w.rate p.0) p.1 q.lawful q.read w.category w.few
 
   law : Law s h
@@ -58,11 +57,15 @@ module _ (s : Link) (new : New s) (h : List CallMade) (r : Run s h) where
         places = a.line.places;
         fits = a.line.fits;
         waiting = a.line.waiting;
-        supply = to_come_kept (now s h).supply (now s h).line a.line a.supply;
+        supply = to_come_kept (now s h).source (now s h).line a.line a.supply;
       }
 
 pub every_run : EveryRun
 every_run s h new r = law s new h r
+
+pub every_run_throughout : EveryRunThroughout
+every_run_throughout s [] new r = every_run s [] new r
+every_run_throughout s (m ∷ h) new r = (every_run s (m ∷ h) new r, every_run_throughout s h new r.1)
 
 pub every_run_keeps : EveryRunKeeps
 every_run_keeps s h new r = kept s new h r
@@ -72,7 +75,7 @@ carried t u c p = record {
   step = p;
   goes_on = λ s h new r q.
       let p' : Step (now s h) c u = subst (λ y. Step y c u) (sym q) p in
-      ((p', r), every_run s (record { call = c; link = u } ∷ h) new (p', r));
+      ((p', r), every_run_throughout s (record { call = c; link = u } ∷ h) new (p', r));
 }
 
 now_join : (s : Link) (h h' : List CallMade) → now s (h' ++ h) ≡ now (now s h) h'
@@ -90,5 +93,5 @@ carried_over t h r = record {
   goes_on = λ s g new q is.
       let r' : Run (now s g) h = subst (λ l. Run l h) (sym is) r in
       let whole = (join s g h q r').0 in
-      (whole, every_run s (h ++ g) new whole);
+      (whole, every_run_throughout s (h ++ g) new whole);
 }

@@ -16,22 +16,24 @@ use Rattle.cyclic.proofs.Linear.{xor_back}
 use Rattle.packet_layout.specs.Guarded.{guarded_bits}
 use Rattle.packet.specs.Calls.{packet}
 use Rattle.packet.specs.CheckBits.{word_of}
-use Rattle.law.specs.GuardedBits.{changed_besides_pcb0, changed_guarded, corrected_packet, with_bit_changed}
-use Rattle.law.specs.Arrivals.{are_lawful, blank_arrival, is_lawful}
+use Rattle.rules.specs.GuardedBits.{changed_besides_pcb0, changed_guarded}
+use Rattle.rules.specs.Arrivals.{are_lawful, blank_arrival, is_lawful}
 use Rattle.figures.specs.Pitch.{no_pitch}
-use Rattle.law.specs.Readings.{Reading, Reads, event_read, pitch_after}
-use Rattle.law.specs.Ends.{Taken}
-use Rattle.law.specs.Links.{Link}
-use Rattle.law.specs.Sending.{Sent, arrival_sent}
+use Rattle.rules.specs.Readings.{Reading, Reads, event_read, pitch_after}
+use Rattle.rules.specs.Ends.{Taken}
+use Rattle.rules.specs.Links.{Link}
+use Rattle.rules.specs.Sending.{Sent, arrival_sent}
 use Rattle.law.specs.Runs.{Send, Blank, Disturb, Take, RestartReceiver, Frame, CallMade, Run, Step, arrivals_taken, now, restarts_at, the_receiver, the_sender}
 use Rattle.law.specs.Law.{IsSent, IsTaken}
 use Rattle.law.specs.Example.{ArrivesWithChanges, ExampleRun, IsReadWithChanges, MemoriesApart, TakenAsBlank}
-use Rattle.law.proofs.Changes.{changes_of_words, word_changed}
+use Rattle.law.proofs.Changes.{changes_of_words}
 use Rattle.law.proofs.Corrected.{both_changed_is_lawful, one_changed_fine, one_changed_is_lawful, pcb0_changed_is_lawful, sent_size}
 use Rattle.law.proofs.Exchanges.{after_codes, blank_step, disturb_step, link, lsp_codes, parameters, send_step, sends_within, sent, take_step, taken}
 use Rattle.law.proofs.Numbers.{append_nil}
 use Rattle.law.proofs.Growth.{Extends, Grows, Row, extends_further, extends_one, extends_same, newest, row_is, row_more, row_start, row_stays}
 use Rattle.law.proofs.Silent.{reads_as_sent, reads_both_changed, reads_corrected, reads_pcb0_changed, silent, silent_reading}
+use Rattle.packet.proofs.Changed.{word_changed}
+use Rattle.packet.specs.Changes.{corrected_packet, with_bit_changed}
 
 nothing_waits : are_lawful [] ≡ true
 unfolding are_lawful
@@ -229,8 +231,9 @@ arrives h n m r category bytes l x f g d changed besides one_of is_sent f_is is_
       sent = sent m;
       taken = taken (record { category = category; bytes = bytes }) l x r;
       few = record {
-        frame = (f, is_sent, f_is);
-        arrival = (g, is_taken, g_is);
+        pair = record { sent = f; taken = g; is_sent = is_sent; is_taken = is_taken };
+        frame = f_is;
+        arrival = g_is;
         rate = refl;
         category = one_of;
         few = omega (arith, c.0, ones.0, few);
@@ -399,10 +402,12 @@ module _ (m : List ℤ) (h : List CallMade) (at_start : At m fresh h) (row : Row
   apart2 : MemoriesApart h259 2 0 1
   unfolding m2 r2
   apart2 = record {
-    sent = record { what = Some (sent m); memories = m2; era = restarts_at the_sender h };
-    taken = record { what = taken (arrival_sent (sent m)) C (Some (silent_reading (lsp_codes m))) fresh; memories = r2; era = restarts_at the_receiver h };
-    is_sent = extends2.sent 2 _ (newest _ _ _ grows2.sent 2 (omega (arith, row.sent_length)));
-    is_taken = extends2.taken 2 _ (newest _ _ _ grows2.taken 2 (omega (arith, row.taken_length)));
+    pair = record {
+      sent = record { what = Some (sent m); memories = m2; era = restarts_at the_sender h };
+      taken = record { what = taken (arrival_sent (sent m)) C (Some (silent_reading (lsp_codes m))) fresh; memories = r2; era = restarts_at the_receiver h };
+      is_sent = extends2.sent 2 _ (newest _ _ _ grows2.sent 2 (omega (arith, row.sent_length)));
+      is_taken = extends2.taken 2 _ (newest _ _ _ grows2.taken 2 (omega (arith, row.taken_length)));
+    };
     eras = (row.sender_now, row.receiver_now);
     lsp = 0;
     apart =
@@ -423,10 +428,12 @@ module _ (m : List ℤ) (h : List CallMade) (at_start : At m fresh h) (row : Row
 
   blank3 : TakenAsBlank h259 3
   blank3 = record {
-    sent = record { what = None; memories = m2; era = restarts_at the_sender h2 };
-    taken = record { what = taken blank_arrival B None r2; memories = r2; era = restarts_at the_receiver h2 };
-    is_sent = extends3.sent 3 _ (newest _ _ _ grows3.sent 3 (omega (arith, row2.sent_length)));
-    is_taken = extends3.taken 3 _ (newest _ _ _ grows3.taken 3 (omega (arith, row2.taken_length)));
+    pair = record {
+      sent = record { what = None; memories = m2; era = restarts_at the_sender h2 };
+      taken = record { what = taken blank_arrival B None r2; memories = r2; era = restarts_at the_receiver h2 };
+      is_sent = extends3.sent 3 _ (newest _ _ _ grows3.sent 3 (omega (arith, row2.sent_length)));
+      is_taken = extends3.taken 3 _ (newest _ _ _ grows3.taken 3 (omega (arith, row2.taken_length)));
+    };
     blank = (refl, refl);
   }
 
@@ -461,7 +468,7 @@ module _ (m : List ℤ) (h : List CallMade) (at_start : At m fresh h) (row : Row
   a_run = record {
     start = start;
     history = h259;
-    empty = record { supply = refl; waiting = refl };
+    empty = record { source = refl; waiting = refl };
     new = record { sender = refl; receiver = refl; places = omega arith; fits = omega arith; waiting = nothing_waits; supply = nothing_waits };
     run = run259;
     row = row_stays h258 h259 2 256 extends259 (row_is h258 1 256 0 1 row258);

@@ -18,14 +18,15 @@ use Rattle.figures.specs.declared.codebook.Sign.TheVariants.{Plus}
 use Rattle.figures.specs.Codebook.{EncodesCodebooks, codebook_allowed, codebook_codes, parameter_at}
 use Rattle.figures.specs.Codebook as codebook
 use Rattle.figures.specs.Pitch.{pitch_allowed, pitch_codes, no_pitch}
-use Rattle.law.specs.Arrivals.{Arrival, blank_arrival, is_lawful}
-use Rattle.law.specs.Readings.{Reading, Reads, event_read, pitch_after}
-use Rattle.law.specs.Ends.{Taken}
-use Rattle.law.specs.Sending.{Encodes, FrequenciesAllowed, Parameters, Sent, arrival_sent, drawn, frequency_allowed, offsets}
-use Rattle.law.specs.Links.{Link, this_line}
+use Rattle.rules.specs.Arrivals.{Arrival, blank_arrival, is_lawful}
+use Rattle.rules.specs.Readings.{Reading, Reads, event_read, pitch_after}
+use Rattle.rules.specs.Ends.{Taken}
+use Rattle.rules.specs.Sending.{Encodes, Parameters, Sent, arrival_sent, drawn}
+use Rattle.rules.specs.Links.{Link, this_line}
 use Rattle.law.specs.Runs.{Send, Blank, Disturb, Take, Step}
 use Rattle.law.proofs.Sent.{ten_length}
 use Rattle.law.proofs.Silent.{silent, silent_within, zero_at}
+use Rattle.lsp.specs.Offsets.{FrequenciesAllowed, frequency_allowed, offsets}
 
 -- ---- the parameters: the highest frequencies that code 15 gives a new end, no pitch, and the least codebook figure
 
@@ -38,7 +39,7 @@ frequency i = bias i +ℤ value_of Rate1 i 15
 abbrev pub parameters : Parameters
 parameters = record { frequencies = ten frequency; pitches = replicate 4 no_pitch; codebooks = replicate 8 parameter }
 
-allowed : FrequenciesAllowed parameters
+allowed : FrequenciesAllowed (ten frequency)
 allowed i h =
     subst (λ f. frequency_allowed f ≡ true) (sym (get_or_ten frequency (pos 0) i h)) (all_at (λ i. frequency_allowed (frequency i)) 10 i refl h)
 
@@ -97,7 +98,7 @@ link m r waiting = record {
   sender = record { memories = m; pitch = no_pitch; seed = 0 };
   line = record { waiting = waiting; places = 1 };
   receiver = record { memories = r; pitch = no_pitch };
-  supply = this_line;
+  source = this_line;
 }
 
 -- the memories after a packet with these LSP codes
@@ -125,7 +126,7 @@ blank_step m r = ((omega arith, refl, refl), refl)
 -- the waiting arrival is replaced by a suspect packet
 pub disturb_step : (m r : List ℤ) (a : Arrival) (bytes : List ℕ) → is_lawful (record { category = Suspect; bytes = bytes }) ≡ true
     → Step (link m r (a ∷ [])) (Disturb 1 5 bytes (Ok tt)) (link m r (record { category = Suspect; bytes = bytes } ∷ []))
-disturb_step m r a bytes lawful = (record { waits = (omega arith, omega arith); known = refl; lawful = lawful; line_after = refl }, refl)
+disturb_step m r a bytes lawful = (record { waits = (omega arith, omega arith); made = (refl, refl, lawful); line_after = refl }, refl)
 
 -- it is taken
 abbrev pub taken : Arrival → Letter → Option Reading → List ℤ → Taken
@@ -134,6 +135,9 @@ taken a l x r = record { arrival = a; letter = l; frequencies = frequencies (aft
 pub take_step : (m r : List ℤ) (a : Arrival) (l : Letter) (x : Option Reading) → Reads a.category a.bytes l x → pitch_after l x no_pitch ≡ no_pitch
     → Step (link m r (a ∷ [])) (Take (Some (taken a l x r))) (link m (after r (event_read l x ∷ [])) [])
 take_step m r a l x reads pitch = (
-  record { first = refl; read = reads; receiver = ap (λ p. record { memories = after r (event_read l x ∷ []); pitch = p }) (sym pitch); answer = refl },
+  record {
+    first = refl;
+    received = record { read = reads; receiver = ap (λ p. record { memories = after r (event_read l x ∷ []); pitch = p }) (sym pitch); answer = refl };
+  },
   refl,
 )

@@ -2,11 +2,11 @@
 use Rattle.std.proofs.Common.{◌≡◌, ℕ, zero, suc, true, List, [], ◌∷◌, ◌++◌, Ok, Err, Some, None, Option, ℤ, sym, ap, subst, inl, inr}
 use Rattle.packet.specs.Calls.{packet}
 use Rattle.packet.specs.Codes.{Within}
-use Rattle.law.specs.Arrivals.{are_lawful, is_lawful}
-use Rattle.law.specs.Readings.{Reads}
-use Rattle.law.specs.Ends.{Taken}
-use Rattle.law.specs.Links.{Link, to_come}
-use Rattle.law.specs.Sending.{Sent}
+use Rattle.rules.specs.Arrivals.{are_lawful, is_lawful}
+use Rattle.rules.specs.Readings.{Reads}
+use Rattle.rules.specs.Ends.{Taken}
+use Rattle.rules.specs.Links.{Link, to_come}
+use Rattle.rules.specs.Sending.{Sent}
 use Rattle.law.specs.Runs.{Call, Send, Blank, Disturb, Take, RestartSender, RestartReceiver, Frame, CallMade, New, Role, frame, restarts, nothing, Run, LinkEnd, Step, arrivals_taken, frame_of_role, frames_at, frames_sent, now, restarts_at, receiver_role, sender_role, the_receiver, the_sender}
 use Rattle.law.specs.Law.{numbered}
 use Rattle.law.proofs.Keeping.{ArrivalsKept, arrivals_kept, lawful_first, to_come_kept}
@@ -50,7 +50,7 @@ receiver_frame s t (Send n p r) k h = tt
 receiver_frame s t (Blank r) k h = tt
 receiver_frame s t (Disturb n c bytes r) k h = tt
 receiver_frame s t (Take (Some x)) k h =
-    record { lawful = lawful_first x.arrival (to_come t) (subst (λ l. are_lawful l ≡ true) h.0.first (to_come_kept s.supply s.line k.line k.supply)); read = h.0.read }
+    record { lawful = lawful_first x.arrival (to_come t) (subst (λ l. are_lawful l ≡ true) h.0.first (to_come_kept s.source s.line k.line k.supply)); read = h.0.received.read }
 receiver_frame s t (Take None) k h = tt
 receiver_frame s t RestartSender k h = tt
 receiver_frame s t RestartReceiver k h = tt

@@ -1,8 +1,8 @@
 -- A run that grows by one frame at each end, and 256 packets in a row within it.
 use Rattle.std.proofs.Common.{◌≡◌, ℕ, zero, suc, ◌+◌, ◌<◌, List, [], ◌∷◌, ◌++◌, length, Some, Option, ℤ, refl, sym, ap, ap₂, ◌∙◌, subst, inl, inr, arith}
 use Rattle.std.proofs.lemmas.Bool.{cases_lt}
-use Rattle.law.specs.Ends.{Taken}
-use Rattle.law.specs.Sending.{Sent}
+use Rattle.rules.specs.Ends.{Taken}
+use Rattle.rules.specs.Sending.{Sent}
 use Rattle.law.specs.Runs.{Frame, CallMade, arrivals_taken, frames_sent, restarts_at, the_receiver, the_sender}
 use Rattle.law.specs.Law.{InARow, FrameLspTakenAsSent, IsSent, IsTaken, LspTakenAsSent, numbered, one_if_packet, packet_count, one_if_packet_frame}
 use Rattle.law.proofs.Numbers.{new_number, number_in, number_push, old_number, push_length, same_some}
@@ -73,13 +73,24 @@ row_more h h' w m x r before count many sender receiver g same row =
       each = λ i l. elim (cases_lt i count) [
         | inl o ↦
             let p = row.each i o in
-            record { sent = p.sent; taken = p.taken; is_sent = longer _ _ f g.sent _ p.sent p.is_sent; is_taken = longer _ _ t g.taken _ p.taken p.is_taken; same = p.same }
+            record {
+              pair = record {
+                sent = p.pair.sent;
+                taken = p.pair.taken;
+                is_sent = longer _ _ f g.sent _ p.pair.sent p.pair.is_sent;
+                is_taken = longer _ _ t g.taken _ p.pair.taken p.pair.is_taken;
+              };
+              same = p.same;
+            }
         | inr o ↦
             let q : suc before + count ≡ suc before + i = omega arith in
-            record { sent = f; taken = t; is_sent = subst (λ n. IsSent h' n f) q new_sent; is_taken = subst (λ n. IsTaken h' n t) q new_taken; same = same }
+            record {
+              pair = record { sent = f; taken = t; is_sent = subst (λ n. IsSent h' n f) q new_sent; is_taken = subst (λ n. IsTaken h' n t) q new_taken };
+              same = same;
+            }
       ];
       packets_are =
-          let old = packets_same (frames_sent h') (frames_sent h) (suc before) count (λ k l. let p = row.each k l in longer _ _ f g.sent _ p.sent p.is_sent ∙ sym p.is_sent) in
+          let old = packets_same (frames_sent h') (frames_sent h) (suc before) count (λ k l. let p = (row.each k l).pair in longer _ _ f g.sent _ p.sent p.is_sent ∙ sym p.is_sent) in
           ap₂ (λ a b. a + one_if_packet_frame b) (old ∙ row.packets_are) new_sent;
       sender_eras = era_of_new _ _ f before sender g.sent row.sender_now row.sender_eras;
       receiver_eras = era_of_new _ _ t before receiver g.taken row.receiver_now row.receiver_eras;
@@ -112,17 +123,20 @@ row_is h before j sender receiver row = record {
 -- it stays one as the run goes on
 pub row_stays : (h h' : List CallMade) (n j : ℕ) → Extends h h' → InARow h n j → InARow h' n j
 row_stays h h' n j e row = record {
-  lsp_taken_as_sent = λ i l. let p = row.lsp_taken_as_sent i l in record { sent = p.sent; taken = p.taken; is_sent = e.sent _ p.sent p.is_sent; is_taken = e.taken _ p.taken p.is_taken; same = p.same };
-  many = packets_same (frames_sent h') (frames_sent h) n (suc j) (λ k l. let p = row.lsp_taken_as_sent k (omega arith) in e.sent _ p.sent p.is_sent ∙ sym p.is_sent) ∙ row.many;
+  lsp_taken_as_sent = λ i l.
+      let q = row.lsp_taken_as_sent i l in
+      let p = q.pair in
+      record { pair = record { sent = p.sent; taken = p.taken; is_sent = e.sent _ p.sent p.is_sent; is_taken = e.taken _ p.taken p.is_taken }; same = q.same };
+  many = packets_same (frames_sent h') (frames_sent h) n (suc j) (λ k l. let p = (row.lsp_taken_as_sent k (omega arith)).pair in e.sent _ p.sent p.is_sent ∙ sym p.is_sent) ∙ row.many;
   sender_era = λ f f' a b.
-      let p = row.lsp_taken_as_sent 0 (omega arith) in
-      let q = row.lsp_taken_as_sent j (omega arith) in
+      let p = (row.lsp_taken_as_sent 0 (omega arith)).pair in
+      let q = (row.lsp_taken_as_sent j (omega arith)).pair in
       let z : n + 0 ≡ n = omega arith in
       let first : IsSent h n p.sent = subst (λ k. IsSent h k p.sent) z p.is_sent in
       ap (λ g. g.era) (same_some (sym a ∙ e.sent n p.sent first)) ∙ row.sender_era p.sent q.sent first q.is_sent ∙ ap (λ g. g.era) (same_some (sym (e.sent (n + j) q.sent q.is_sent) ∙ b));
   receiver_era = λ f f' a b.
-      let p = row.lsp_taken_as_sent 0 (omega arith) in
-      let q = row.lsp_taken_as_sent j (omega arith) in
+      let p = (row.lsp_taken_as_sent 0 (omega arith)).pair in
+      let q = (row.lsp_taken_as_sent j (omega arith)).pair in
       let z : n + 0 ≡ n = omega arith in
       let first : IsTaken h n p.taken = subst (λ k. IsTaken h k p.taken) z p.is_taken in
       ap (λ g. g.era) (same_some (sym a ∙ e.taken n p.taken first)) ∙ row.receiver_era p.taken q.taken first q.is_taken ∙ ap (λ g. g.era) (same_some (sym (e.taken (n + j) q.taken q.is_taken) ∙ b));

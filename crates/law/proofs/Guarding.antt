@@ -23,13 +23,16 @@ use Rattle.packet.proofs.Carried.{value_lt}
 use Rattle.packet.proofs.Messages.{guarded_lt, message_is}
 use Rattle.packet.proofs.Numbers.{bit_of_number}
 use Rattle.packet.proofs.Trips.{guarded_word}
-use Rattle.law.specs.Sending.{Sent}
-use Rattle.law.specs.GuardedBits.{SameGuardedCodeBits, changed_besides_pcb0, changed_guarded, corrected_packet}
-use Rattle.law.specs.Arrivals.{Arrival, are_bytes, is_lawful}
-use Rattle.law.specs.Readings.{Reading, Reads}
-use Rattle.law.specs.Ends.{Taken}
+use Rattle.rules.specs.Sending.{Sent}
+use Rattle.rules.specs.GuardedBits.{SameGuardedCodeBits, changed_besides_pcb0, changed_guarded}
+use Rattle.rules.specs.Arrivals.{Arrival, are_bytes, is_lawful}
+use Rattle.rules.specs.Readings.{Reading, Reads}
+use Rattle.rules.specs.Ends.{Taken}
 use Rattle.law.specs.Law.{GuardedBitsHold}
-use Rattle.law.proofs.Changes.{changed_all, changed_front, word_corrected}
+use Rattle.law.proofs.Changes.{changed_all, changed_front}
+use Rattle.law.proofs.OneReading.{one_reading}
+use Rattle.packet.proofs.Changed.{word_corrected}
+use Rattle.packet.specs.Changes.{corrected_packet}
 
 -- the guarded code bits of some codes as a number
 abbrev shown_by : CodeNumbers → ℕ
@@ -148,6 +151,12 @@ module _ (c : CodeNumbers) (xs ys : List ℕ) (was_sent : word_of xs ≡ sent (s
   suspect_reads : (r : Option ℕ) → SuspectRule (word_of ys) r → ReadIfAtMost 1 (changed_guarded xs ys) (shown_by c) r
   suspect_reads r h = subst (λ n. ReadIfAtMost 1 n (shown_by c) r) all_changes (reads_as_sent.suspect r h)
 
+-- what is shown, if anything is
+shown_outright : (P : Reading → Type 0) (l : Letter) (x : Option Reading) → is_some x ≡ is_read l → (is_read l ≡ true → MatchOption x ⊥ P)
+    → MatchOption x (Unit {0}) P
+shown_outright P l None e shown = tt
+shown_outright P l (Some r) e shown = shown (sym e)
+
 pub guarded_bits_hold : (f : Sent) (x : Taken) → f.rate ≡ Rate1 → Within Rate1 f.codes → f.bytes ≡ packet f.rate f.codes → is_lawful x.arrival ≡ true
     → Reads x.arrival.category x.arrival.bytes x.letter x.reading → (x.arrival.category ≡ Full) ⊎ (x.arrival.category ≡ Suspect)
     → changed_guarded f.bytes x.arrival.bytes ≤ 4 → GuardedBitsHold f x
@@ -156,6 +165,7 @@ guarded_bits_hold f x rate within bytes lawful reads category few =
     let xs = f.bytes in
     let ys = x.arrival.bytes in
     let l = x.letter in
+    let read : is_some x.reading ≡ is_read l = one_reading.letter x.arrival.category ys l x.reading reads in
     let was_sent : word_of xs ≡ sent (shown_by c) = ap word_of (bytes ∙ ap (λ q. packet q c) rate) ∙ guarded_word.sent c within in
     elim category [
       | inl e ↦
@@ -164,7 +174,9 @@ guarded_bits_hold f x rate within bytes lawful reads category few =
           let h = plain_reads c xs ys was_sent few in
           let iff = way_iff (PlainRule (word_of ys)) 0 n c h l x.reading way in
           record {
-            shown = way_shown (PlainRule (word_of ys)) 0 n c h l x.reading way;
+            shown =
+                shown_outright (λ r. SameGuardedCodeBits r.codes c) l x.reading read (way_shown (PlainRule (word_of ys)) 0 n c h l x.reading way);
+            read = read;
             suspect = λ s. absurd (not_both x.arrival.category e s);
             plain = λ _. ((λ is. (none_is n).0 (iff.0 is)), (λ none. iff.1 ((none_is n).1 none)));
             erased = way_erased (PlainRule (word_of ys)) 0 n c h l x.reading way;
@@ -174,7 +186,9 @@ guarded_bits_hold f x rate within bytes lawful reads category few =
           let n = changed_guarded xs ys in
           let h = suspect_reads c xs ys was_sent few in
           record {
-            shown = way_shown (SuspectRule (word_of ys)) 1 n c h l x.reading way;
+            shown =
+                shown_outright (λ r. SameGuardedCodeBits r.codes c) l x.reading read (way_shown (SuspectRule (word_of ys)) 1 n c h l x.reading way);
+            read = read;
             suspect = λ _. way_iff (SuspectRule (word_of ys)) 1 n c h l x.reading way;
             plain = λ s. absurd (not_both x.arrival.category s e);
             erased = way_erased (SuspectRule (word_of ys)) 1 n c h l x.reading way;

@@ -2,14 +2,15 @@
 use Rattle.std.proofs.Common.{◌≡◌, ℕ, Result, zero, suc, ◌-◌, ◌<◌, ◌≤◌, true, List, [], ◌∷◌, ◌++◌, length, set, Ok, Err, Some, None, refl, sym, ap, ◌∙◌, subst, arith}
 use Rattle.std.proofs.lemmas.Bool.{and_parts}
 use Rattle.service.specs.declared.refusals.Refusal.{Refusal}
-use Rattle.law.specs.Ends.{Sender}
-use Rattle.law.specs.Arrivals.{Arrival, are_bytes, are_lawful, blank_arrival, is_lawful}
-use Rattle.law.specs.Sending.{Parameters, Sent, arrival_sent, drawn}
-use Rattle.law.specs.Links.{Blanks, Disturbs, Line, Link, Sends, Supply, this_line, other_supply, line_left, most_places, supply_left, to_come, to_come_from, with_waiting}
+use Rattle.rules.specs.Ends.{Sender}
+use Rattle.rules.specs.Arrivals.{Arrival, are_bytes, are_lawful, blank_arrival, is_lawful}
+use Rattle.rules.specs.Sending.{Parameters, Sent, arrival_sent, drawn}
+use Rattle.rules.specs.Links.{Blanks, Disturbs, Line, Link, Sends, Source, this_line, other_supply, line_left, with_last, source_left, to_come, to_come_from}
 use Rattle.law.specs.Runs.{Call, Send, Blank, Disturb, Take, RestartSender, RestartReceiver, CallMade, New, Run, Step, now}
 use Rattle.law.proofs.Numbers.{push_length}
 use Rattle.law.proofs.Sent.{sent_lawful}
 use Rattle.law.proofs.Steps.{blank_refused}
+use Rattle.service.specs.Queues.{max_places}
 
 lawful_push : (list : List Arrival) (a : Arrival) → are_lawful list ≡ true → is_lawful a ≡ true → are_lawful (list ++ (a ∷ [])) ≡ true
 unfolding are_lawful
@@ -36,37 +37,37 @@ set_length (x ∷ xs) zero a = refl
 set_length (x ∷ xs) (suc i) a = ap suc (set_length xs i a)
 
 pub record LineKept (line : Line) : Type 0 where
-  pub places : line.places ≤ most_places
+  pub places : line.places ≤ max_places
   pub fits : length line.waiting ≤ line.places
   pub waiting : are_lawful line.waiting ≡ true
 
 -- the arrivals that another supply has to come are lawful
-pub SupplyKept : Supply → Type 0
+pub SupplyKept : Source → Type 0
 SupplyKept this_line = Unit {0}
 SupplyKept (other_supply list) = are_lawful list ≡ true
 
 pub record ArrivalsKept (s : Link) : Type 0 where
   pub line : LineKept s.line
-  pub supply : SupplyKept s.supply
+  pub supply : SupplyKept s.source
 
-pub to_come_kept : (supply : Supply) (line : Line) → LineKept line → SupplyKept supply → are_lawful (to_come_from supply line) ≡ true
+pub to_come_kept : (supply : Source) (line : Line) → LineKept line → SupplyKept supply → are_lawful (to_come_from supply line) ≡ true
 unfolding SupplyKept
 to_come_kept this_line line k l = k.waiting
 to_come_kept (other_supply list) line k l = l
 
-pub supply_kept : (supply : Supply) (line : Line) → are_lawful (to_come_from supply line) ≡ true → SupplyKept supply
+pub supply_kept : (supply : Source) (line : Line) → are_lawful (to_come_from supply line) ≡ true → SupplyKept supply
 unfolding SupplyKept
 supply_kept this_line line h = tt
 supply_kept (other_supply list) line h = h
 
-line_pushed : (line : Line) (a : Arrival) → length line.waiting < line.places → is_lawful a ≡ true → LineKept line → LineKept (with_waiting (line.waiting ++ (a ∷ [])) line)
+line_pushed : (line : Line) (a : Arrival) → length line.waiting < line.places → is_lawful a ≡ true → LineKept line → LineKept (with_last a line)
 line_pushed line a room lawful k = record {
   places = k.places;
   fits = omega (arith, push_length line.waiting a);
   waiting = lawful_push line.waiting a k.waiting lawful;
 }
 
-line_set : (line : Line) (i : ℕ) (a : Arrival) → is_lawful a ≡ true → LineKept line → LineKept (with_waiting (set line.waiting i a) line)
+line_set : (line : Line) (i : ℕ) (a : Arrival) → is_lawful a ≡ true → LineKept line → LineKept (record line { waiting = set line.waiting i a })
 line_set line i a lawful k = record {
   places = k.places;
   fits = omega (arith, set_length line.waiting i a, k.fits);
@@ -74,16 +75,16 @@ line_set line i a lawful k = record {
 }
 
 -- what is left once the first was taken
-left_kept : (supply : Supply) (line : Line) (a : Arrival) (rest : List Arrival) → to_come_from supply line ≡ a ∷ rest → LineKept line → SupplyKept supply
-    → LineKept (line_left supply rest line) × SupplyKept (supply_left supply rest)
+left_kept : (supply : Source) (line : Line) (a : Arrival) (rest : List Arrival) → to_come_from supply line ≡ a ∷ rest → LineKept line → SupplyKept supply
+    → LineKept (line_left supply rest line) × SupplyKept (source_left supply rest)
 unfolding SupplyKept
 left_kept this_line line a rest e k l =
     let long = ap length e in
     (record { places = k.places; fits = omega (arith, long, k.fits); waiting = lawful_rest a rest (subst (λ l. are_lawful l ≡ true) e k.waiting) }, tt)
 left_kept (other_supply list) line a rest e k l = (k, lawful_rest a rest (subst (λ l. are_lawful l ≡ true) e l))
 
-none_left : (supply : Supply) (line : Line) (rest : List Arrival) → to_come_from supply line ≡ [] → rest ≡ [] → LineKept line → SupplyKept supply
-    → LineKept (line_left supply rest line) × SupplyKept (supply_left supply rest)
+none_left : (supply : Source) (line : Line) (rest : List Arrival) → to_come_from supply line ≡ [] → rest ≡ [] → LineKept line → SupplyKept supply
+    → LineKept (line_left supply rest line) × SupplyKept (source_left supply rest)
 unfolding SupplyKept
 none_left this_line line rest e r k l =
     (record { places = k.places; fits = (let z = ap length r in omega arith); waiting = subst (λ l. are_lawful l ≡ true) (e ∙ sym r) k.waiting }, tt)
@@ -104,27 +105,27 @@ blank_keeps e e' line line' (Ok u) (room, sender, line_is) k = subst LineKept (s
 blank_keeps e e' line line' (Err r) h k = subst LineKept (sym (blank_refused e e' line line' r h).1) k
 
 disturb_keeps : (line line' : Line) (n c : ℕ) (bytes : List ℕ) (r : Result Unit Refusal) → Disturbs line n c bytes r line' → LineKept line → LineKept line'
-disturb_keeps line line' n c bytes (Ok u) a k = subst LineKept (sym a.line_after) (line_set line (n - 1) _ a.lawful k)
+disturb_keeps line line' n c bytes (Ok u) a k = subst LineKept (sym a.line_after) (line_set line (n - 1) _ a.made.2 k)
 disturb_keeps line line' n c bytes (Err r) (are, refused, line_is) k = subst LineKept (sym line_is) k
 
 pub step_keeps : (s t : Link) (c : Call) → Step s c t → ArrivalsKept s → ArrivalsKept t
 step_keeps s t (Send n p r) h k = record {
   line = send_keeps s.sender t.sender s.line t.line n p r h.0 k.line;
-  supply = subst SupplyKept (sym (ap (λ l. l.supply) h.1)) k.supply;
+  supply = subst SupplyKept (sym (ap (λ l. l.source) h.1)) k.supply;
 }
 step_keeps s t (Blank r) h k = record {
   line = blank_keeps s.sender t.sender s.line t.line r h.0 k.line;
-  supply = subst SupplyKept (sym (ap (λ l. l.supply) h.1)) k.supply;
+  supply = subst SupplyKept (sym (ap (λ l. l.source) h.1)) k.supply;
 }
 step_keeps s t (Disturb n c bytes r) h k = record {
   line = disturb_keeps s.line t.line n c bytes r h.0 k.line;
-  supply = subst SupplyKept (sym (ap (λ l. l.supply) h.1)) k.supply;
+  supply = subst SupplyKept (sym (ap (λ l. l.source) h.1)) k.supply;
 }
 step_keeps s t (Take (Some x)) h k =
-    let (line, supply) = left_kept s.supply s.line x.arrival (to_come t) h.0.first k.line k.supply in
+    let (line, supply) = left_kept s.source s.line x.arrival (to_come t) h.0.first k.line k.supply in
     subst ArrivalsKept (sym h.1) (record { line = line; supply = supply })
 step_keeps s t (Take None) h k =
-    let (line, supply) = none_left s.supply s.line (to_come t) h.0.0.0 h.0.0.1 k.line k.supply in
+    let (line, supply) = none_left s.source s.line (to_come t) h.0.0.0 h.0.0.1 k.line k.supply in
     subst ArrivalsKept (sym h.1) (record { line = line; supply = supply })
 step_keeps s t RestartSender h k = subst ArrivalsKept (sym h) (record { line = k.line; supply = k.supply })
 step_keeps s t RestartReceiver h k = subst ArrivalsKept (sym h) (record { line = k.line; supply = k.supply })
@@ -132,7 +133,7 @@ step_keeps s t RestartReceiver h k = subst ArrivalsKept (sym h) (record { line =
 pub arrivals_kept : (s : Link) (h : List CallMade) → New s → Run s h → ArrivalsKept (now s h)
 arrivals_kept s [] new r = record {
   line = record { places = new.places; fits = new.fits; waiting = new.waiting };
-  supply = supply_kept s.supply s.line new.supply;
+  supply = supply_kept s.source s.line new.supply;
 }
 arrivals_kept s (m ∷ h) new r = step_keeps (now s h) m.link m.call r.0 (arrivals_kept s h new r.1)
 

@@ -25,3 +25,4 @@ pub mod OneAnswer
 pub mod OneRun
 pub mod Sessions
 pub mod Delivers
+pub mod Listing

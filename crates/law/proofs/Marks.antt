@@ -12,10 +12,9 @@ use Rattle.packet.specs.Codes.{in_order}
 use Rattle.packet_layout.specs.Guarded.{guarded_bits, guarded_code_bits}
 use Rattle.packet_layout.specs.Layouts.{layout}
 use Rattle.figures.specs.Codebook.{figure_of_codes, sends_index_and_sign}
-use Rattle.law.specs.Sending.{cbseed_of, drawn}
+use Rattle.rules.specs.Sending.{cbseed_of, drawn}
 use Rattle.law.specs.Marks.{SuspectGets, WorkedExamples, only_cbgain8, packet_of_zeros}
-use Rattle.law.specs.GuardedBits.{bit_of_power, corrected_packet, with_bit_changed}
-use Rattle.law.specs.Readings.{Reading, Reads}
+use Rattle.rules.specs.Readings.{Reading, Reads}
 use Rattle.law.proofs.OneReading.{one_reading}
 use Rattle.service.specs.declared.categories.Category.TheVariants.{Suspect}
 use Rattle.service.specs.declared.readings.Letter.{Letter}
@@ -24,6 +23,7 @@ use Rattle.service.proofs.Computed.{all_at}
 use Rattle.service.specs.declared.readings.Letter.TheVariants.{P, S, D}
 use Rattle.std.proofs.lemmas.Bool.{and_parts, eqb-true}
 use Rattle.packet.specs.Codes.{Within}
+use Rattle.packet.specs.Changes.{bit_of_power, corrected_packet, with_bit_changed}
 
 decays : (decay (pos 16) ≡ pos 15) × (decay (negsuc 15) ≡ negsuc 13) × (decay (negsuc 0) ≡ negsuc 0)
 unfolding decay

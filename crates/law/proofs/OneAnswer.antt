@@ -1,17 +1,18 @@
 -- Every call has one answer on every link.
 use Rattle.std.proofs.Common.{◌≡◌, ℕ, ◌≤◌, ◌⊎◌, Bool, true, false, not, ◌&&◌, ◌-◌, List, length, set, Ok, Err, Result, inl, inr, refl, sym, ap, ap₂, subst, ◌∙◌, arith}
 use Rattle.std.proofs.lemmas.Bool.{and_parts, cases_Bool, cases_lt, false≢true}
+use Rattle.service.specs.declared.refusals.Fault.{Fault}
 use Rattle.service.specs.declared.refusals.Fault.TheVariants.{UnknownCategory, Length, SpareBits}
 use Rattle.service.specs.declared.refusals.Refusal.{Refusal}
 use Rattle.service.specs.declared.refusals.Refusal.TheVariants.{Faulty, LineFull, NoArrival}
 use Rattle.service.specs.Categories.{category_of}
 use Rattle.service.specs.Tests.{spare_bits_set, unknown_category, wrong_length}
-use Rattle.law.specs.Arrivals.{Arrival, are_bytes, blank_arrival, is_lawful}
-use Rattle.law.specs.Sending.{Parameters}
-use Rattle.law.specs.Ends.{Sender, new_receiver, new_sender}
-use Rattle.law.specs.Links.{Blanks, Disturbs, HasRoom, IsFull, Line, Link, Sends, Waits, arrival_put, sender_after_blank, with_last, with_waiting}
-use Rattle.law.specs.Runs.{Blank, Call, Disturb, RestartReceiver, RestartSender, Send, Step, Take, with_receiver, with_sender_and_line}
-use Rattle.law.specs.Answers.{Answered, Command, IsComplete, OneAnswerToEachCall, blank, command_of, disturb, restart_receiver, restart_sender, send, take}
+use Rattle.rules.specs.Arrivals.{Arrival, MakesArrival, are_bytes, arrival_made, blank_arrival, is_lawful}
+use Rattle.rules.specs.Sending.{Parameters}
+use Rattle.rules.specs.Ends.{Sender, new_receiver, new_sender}
+use Rattle.rules.specs.Links.{Blanks, Disturbs, HasRoom, IsFull, Line, Link, Sends, Waits, sender_after_blank, with_last}
+use Rattle.law.specs.Runs.{Blank, Call, Disturb, RestartReceiver, RestartSender, Send, Step, Take}
+use Rattle.law.specs.Answers.{Answered, Command, IsComplete, OneAnswerToEachCall, OneArrivalOrFault, blank, command_of, disturb, restart_receiver, restart_sender, send, take}
 use Rattle.law.proofs.Once.{Once, guard_once, leaf_once}
 use Rattle.law.proofs.OneSend.{send_once, send_some}
 use Rattle.law.proofs.OneTake.{from_supply_once, from_supply_some}
@@ -34,6 +35,73 @@ lawful_parts a lawful =
 
 lawful_whole : (a : Arrival) → wrong_length a.category (length a.bytes) ≡ false → spare_bits_set a.category a.bytes ≡ false → are_bytes a.bytes ≡ true → is_lawful a ≡ true
 lawful_whole a size spare bytes = rw (size, spare, bytes) refl
+
+-- ---- an arrival is made
+
+module _ (place c : ℕ) (bytes : List ℕ) where
+  abbrev Made : Type 0
+  Made = Result Arrival Fault
+
+  abbrev Fails : Bool → Fault → Made → Type 0
+  Fails b fault r = (b ≡ true) × (r ≡ Err fault)
+
+  abbrev is_unknown : Bool
+  is_unknown = unknown_category c
+
+  abbrev is_wrong : Bool
+  is_wrong = wrong_length (category_of c) (length bytes)
+
+  abbrev is_set : Bool
+  is_set = spare_bits_set (category_of c) bytes
+
+  abbrev IsMade : Made → Type 0
+  IsMade r = r ≡ Ok (arrival_made c bytes)
+
+  abbrev AtSpare : Made → Type 0
+  AtSpare r = Fails is_set (SpareBits place) r ⊎ ((is_set ≡ false) × IsMade r)
+
+  abbrev AtLength : Made → Type 0
+  AtLength r = Fails is_wrong (Length place) r ⊎ ((is_wrong ≡ false) × AtSpare r)
+
+  abbrev AtCategory : Made → Type 0
+  AtCategory r = Fails is_unknown (UnknownCategory place) r ⊎ ((is_unknown ≡ false) × AtLength r)
+
+  test_once : (b : Bool) (fault : Fault) (B : Made → Type 0) → Once B → Once (λ r. Fails b fault r ⊎ ((b ≡ false) × B r))
+  test_once b fault B once =
+      guard_once (Fails b fault) (b ≡ false) B (λ r t f. false≢true (sym f ∙ t.0)) (leaf_once (b ≡ true) (Err fault)) once
+
+  made_once : Once AtCategory
+  made_once =
+      test_once is_unknown (UnknownCategory place) AtLength
+      (test_once is_wrong (Length place) AtSpare
+      (test_once is_set (SpareBits place) IsMade (λ r r' e d. e ∙ sym d)))
+
+  is_made : (r : Made) → MakesArrival place c bytes r → AtCategory r
+  is_made (Ok a) (known, is, lawful) =
+      let tests = lawful_parts (arrival_made c bytes) (subst (λ b. is_lawful b ≡ true) is lawful) in
+      inr (known, inr (tests.size, inr (tests.spare, ap Ok is)))
+  is_made (Err (UnknownCategory i)) (is, unknown) = inl (unknown, ap (λ j. Err (UnknownCategory j)) is)
+  is_made (Err (Length i)) (is, known, wrong) = inr (known, inl (wrong, ap (λ j. Err (Length j)) is))
+  is_made (Err (SpareBits i)) (is, known, right, set) = inr (known, inr (right, inl (set, ap (λ j. Err (SpareBits j)) is)))
+  is_made (Err fault) none = absurd none
+
+  pub arrival_once : (r r' : Made) → MakesArrival place c bytes r → MakesArrival place c bytes r' → r ≡ r'
+  arrival_once r r' a b = made_once r r' (is_made r a) (is_made r' b)
+
+  pub arrival_some : are_bytes bytes ≡ true → (r : Made) × MakesArrival place c bytes r
+  arrival_some are = elim (cases_Bool is_unknown) [
+    | inl unknown ↦ (Err (UnknownCategory place), (refl, unknown))
+    | inr known ↦ elim (cases_Bool is_wrong) [
+      | inl wrong ↦ (Err (Length place), (refl, known, wrong))
+      | inr right ↦ elim (cases_Bool is_set) [
+        | inl set ↦ (Err (SpareBits place), (refl, known, right, set))
+        | inr unset ↦ (Ok (arrival_made c bytes), (known, refl, lawful_whole (arrival_made c bytes) right unset are))
+      ]
+    ]
+  ]
+
+pub one_arrival : OneArrivalOrFault
+one_arrival = record { some = arrival_some; only = arrival_once }
 
 -- ---- blank
 
@@ -80,63 +148,31 @@ abbrev DisturbOutcome : Type 0
 DisturbOutcome = Result Unit Refusal × Line
 
 module _ (line : Line) (n c : ℕ) (bytes : List ℕ) where
-  abbrev refused : Refusal → DisturbOutcome
-  refused e = (Err e, line)
+  -- a disturb by what the category and the bytes make
+  abbrev put : Result Arrival Fault → DisturbOutcome
+  put (Ok a) = (Ok tt, record line { waiting = set line.waiting (n - 1) a })
+  put (Err fault) = (Err (Faulty fault), line)
 
-  abbrev disturbed : Line
-  disturbed = with_waiting (set line.waiting (n - 1) (arrival_put c bytes)) line
-
-  abbrev Test : Bool → Refusal → DisturbOutcome → Type 0
-  Test b e x = (b ≡ true) × (x ≡ refused e)
-
-  abbrev is_unknown : Bool
-  is_unknown = unknown_category c
-
-  abbrev is_wrong : Bool
-  is_wrong = wrong_length (category_of c) (length bytes)
-
-  abbrev is_set : Bool
-  is_set = spare_bits_set (category_of c) bytes
-
-  abbrev Joins : DisturbOutcome → Type 0
-  Joins x = x ≡ (Ok tt, disturbed)
-
-  abbrev AtSpare : DisturbOutcome → Type 0
-  AtSpare x = Test is_set (Faulty (SpareBits n)) x ⊎ ((is_set ≡ false) × Joins x)
-
-  abbrev AtLength : DisturbOutcome → Type 0
-  AtLength x = Test is_wrong (Faulty (Length n)) x ⊎ ((is_wrong ≡ false) × AtSpare x)
-
-  abbrev AtCategory : DisturbOutcome → Type 0
-  AtCategory x = Test is_unknown (Faulty (UnknownCategory n)) x ⊎ ((is_unknown ≡ false) × AtLength x)
+  abbrev Puts : DisturbOutcome → Type 0
+  Puts x = (r : Result Arrival Fault) × MakesArrival n c bytes r × (x ≡ put r)
 
   abbrev NoneWaits : DisturbOutcome → Type 0
-  NoneWaits x = (Waits line n → ⊥) × (x ≡ refused NoArrival)
+  NoneWaits x = (Waits line n → ⊥) × (x ≡ (Err NoArrival, line))
 
   abbrev Disturbing : DisturbOutcome → Type 0
-  Disturbing x = NoneWaits x ⊎ (Waits line n × AtCategory x)
+  Disturbing x = NoneWaits x ⊎ (Waits line n × Puts x)
 
-  test_once : (b : Bool) (e : Refusal) (B : DisturbOutcome → Type 0) → Once B → Once (λ x. Test b e x ⊎ ((b ≡ false) × B x))
-  test_once b e B once = guard_once (Test b e) (b ≡ false) B (λ x t f. false≢true (sym f ∙ t.0)) (leaf_once (b ≡ true) (refused e)) once
+  puts_once : Once Puts
+  puts_once x y (r, a, is) (r', b, is') = is ∙ ap put (arrival_once n c bytes r r' a b) ∙ sym is'
 
   disturbing_once : Once Disturbing
   disturbing_once =
-      guard_once NoneWaits (Waits line n) AtCategory (λ x none waits. none.0 waits) (leaf_once (Waits line n → ⊥) (refused NoArrival))
-      (test_once is_unknown (Faulty (UnknownCategory n)) AtLength
-      (test_once is_wrong (Faulty (Length n)) AtSpare
-      (test_once is_set (Faulty (SpareBits n)) Joins (λ x y e d. e ∙ sym d))))
+      guard_once NoneWaits (Waits line n) Puts (λ x none waits. none.0 waits) (leaf_once (Waits line n → ⊥) (Err NoArrival, line)) puts_once
 
   is_disturbing : (r : Result Unit Refusal) (l : Line) → Disturbs line n c bytes r l → Disturbing (r, l)
-  is_disturbing (Ok u) l a =
-      let tests = lawful_parts (arrival_put c bytes) a.lawful in
-      inr (a.waits, inr (a.known, inr (tests.size, inr (tests.spare, ap (λ k. (Ok u, k)) a.line_after))))
+  is_disturbing (Ok u) l a = inr (a.waits, (Ok (arrival_made c bytes), a.made, ap (λ k. (Ok u, k)) a.line_after))
   is_disturbing (Err NoArrival) l (are, none, e) = inl (none, ap (λ k. (Err NoArrival, k)) e)
-  is_disturbing (Err (Faulty (UnknownCategory i))) l (are, (is, waits, unknown), e) =
-      inr (waits, inl (unknown, ap₂ (λ j k. (Err (Faulty (UnknownCategory j)), k)) is e))
-  is_disturbing (Err (Faulty (Length i))) l (are, (is, waits, known, wrong), e) =
-      inr (waits, inr (known, inl (wrong, ap₂ (λ j k. (Err (Faulty (Length j)), k)) is e)))
-  is_disturbing (Err (Faulty (SpareBits i))) l (are, (is, waits, known, right, set), e) =
-      inr (waits, inr (known, inr (right, inl (set, ap₂ (λ j k. (Err (Faulty (SpareBits j)), k)) is e))))
+  is_disturbing (Err (Faulty fault)) l (are, (waits, made), e) = inr (waits, (Err fault, made, ap (λ k. (Err (Faulty fault), k)) e))
   is_disturbing (Err e) l q = absurd q.1
 
   disturb_once : (r r' : Result Unit Refusal) (l l' : Line) → Disturbs line n c bytes r l → Disturbs line n c bytes r' l' → (r ≡ r') × (l ≡ l')
@@ -144,19 +180,19 @@ module _ (line : Line) (n c : ℕ) (bytes : List ℕ) where
       let same = disturbing_once (r, l) (r', l') (is_disturbing r l a) (is_disturbing r' l' b) in
       (ap (λ (x : DisturbOutcome). x.0) same, ap (λ (x : DisturbOutcome). x.1) same)
 
+  put_made : are_bytes bytes ≡ true → Waits line n → (r : Result Arrival Fault) → MakesArrival n c bytes r
+      → (r' : Result Unit Refusal) × (l : Line) × Disturbs line n c bytes r' l
+  put_made are waits (Ok a) (known, is, lawful) = (
+    Ok tt,
+    record line { waiting = set line.waiting (n - 1) (arrival_made c bytes) },
+    record { waits = waits; made = (known, refl, subst (λ b. is_lawful b ≡ true) is lawful); line_after = refl },
+  )
+  put_made are waits (Err fault) made = (Err (Faulty fault), line, (are, (waits, made), refl))
+
   disturb_some : are_bytes bytes ≡ true → (r : Result Unit Refusal) × (l : Line) × Disturbs line n c bytes r l
   disturb_some are = elim (waits_or_not n (length line.waiting)) [
     | inr none ↦ (Err NoArrival, line, (are, none, refl))
-    | inl waits ↦ elim (cases_Bool is_unknown) [
-      | inl unknown ↦ (Err (Faulty (UnknownCategory n)), line, (are, (refl, waits, unknown), refl))
-      | inr known ↦ elim (cases_Bool is_wrong) [
-        | inl wrong ↦ (Err (Faulty (Length n)), line, (are, (refl, waits, known, wrong), refl))
-        | inr right ↦ elim (cases_Bool is_set) [
-          | inl set ↦ (Err (Faulty (SpareBits n)), line, (are, (refl, waits, known, right, set), refl))
-          | inr unset ↦ (Ok tt, disturbed, record { waits = waits; known = known; lawful = lawful_whole (arrival_put c bytes) right unset are; line_after = refl })
-        ]
-      ]
-    ]
+    | inl waits ↦ let (r, made) = arrival_some n c bytes are in put_made are waits r made
   ]
 
 -- ---- every call
@@ -164,16 +200,16 @@ module _ (line : Line) (n c : ℕ) (bytes : List ℕ) where
 some_answer : (s : Link) (command : Command) → IsComplete command → Answered s command
 some_answer s (send n p) complete =
     let (r, e, line, q) = send_some s.sender s.line n p complete in
-    record { call = Send n p r; link = with_sender_and_line e line s; given = refl; step = (q, refl) }
+    record { call = Send n p r; link = record s { sender = e; line = line }; given = refl; step = (q, refl) }
 some_answer s blank complete =
     let (r, e, line, q) = blank_some s.sender s.line in
-    record { call = Blank r; link = with_sender_and_line e line s; given = refl; step = (q, refl) }
+    record { call = Blank r; link = record s { sender = e; line = line }; given = refl; step = (q, refl) }
 some_answer s (disturb n c bytes) complete =
     let (r, line, q) = disturb_some s.line n c bytes complete in
-    record { call = Disturb n c bytes r; link = with_sender_and_line s.sender line s; given = refl; step = (q, refl) }
+    record { call = Disturb n c bytes r; link = record s { line = line }; given = refl; step = (q, refl) }
 some_answer s take complete = let (x, t, q) = from_supply_some s in record { call = Take x; link = t; given = refl; step = q }
-some_answer s restart_sender complete = record { call = RestartSender; link = with_sender_and_line new_sender s.line s; given = refl; step = refl }
-some_answer s restart_receiver complete = record { call = RestartReceiver; link = with_receiver new_receiver s; given = refl; step = refl }
+some_answer s restart_sender complete = record { call = RestartSender; link = record s { sender = new_sender }; given = refl; step = refl }
+some_answer s restart_receiver complete = record { call = RestartReceiver; link = record s { receiver = new_receiver }; given = refl; step = refl }
 
 -- what a command was given, and which one it is
 abbrev which : Command → ℕ
@@ -202,8 +238,9 @@ bytes_of (disturb n c bytes) d = bytes
 bytes_of _ d = d
 
 -- the same sender and line leave the same link
-same_link : (s t t' : Link) → t.sender ≡ t'.sender → t.line ≡ t'.line → t ≡ with_sender_and_line t.sender t.line s → t' ≡ with_sender_and_line t'.sender t'.line s → t ≡ t'
-same_link s t t' e l is is' = is ∙ ap₂ (λ x y. with_sender_and_line x y s) e l ∙ sym is'
+same_link : (s t t' : Link) → t.sender ≡ t'.sender → t.line ≡ t'.line → t ≡ record s { sender = t.sender; line = t.line }
+    → t' ≡ record s { sender = t'.sender; line = t'.line } → t ≡ t'
+same_link s t t' e l is is' = is ∙ ap₂ (λ x y. record s { sender = x; line = y }) e l ∙ sym is'
 
 one_step : (s t t' : Link) (c c' : Call) → command_of c ≡ command_of c' → Step s c t → Step s c' t' → (c ≡ c') × (t ≡ t')
 one_step s t t' (Send n p r) (Send n' p' r') e (a, is) (b, is') =
@@ -222,7 +259,7 @@ one_step s t t' (Disturb n c bytes r) (Disturb n' c' bytes' r') e (a, is) (b, is
     let same = disturb_once s.line n c bytes r r' t.line t'.line a b' in (
       ap (λ x. Disturb x c bytes r) (sym number) ∙ ap (λ x. Disturb n' x bytes r) (sym category) ∙ ap (λ x. Disturb n' c' x r) (sym list)
           ∙ ap (λ x. Disturb n' c' bytes' x) same.0,
-      is ∙ ap (λ x. with_sender_and_line s.sender x s) same.1 ∙ sym is',
+      is ∙ ap (λ x. record s { line = x }) same.1 ∙ sym is',
     )
 one_step s t t' (Take x) (Take x') e a b = let same = from_supply_once s t t' x x' a b in (ap Take same.0, same.1)
 one_step s t t' RestartSender RestartSender e a b = (refl, a ∙ sym b)

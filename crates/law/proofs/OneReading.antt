@@ -21,11 +21,11 @@ use Rattle.figures.specs.declared.pitch.PitchCodes.{PitchCodes}
 use Rattle.figures.specs.Pitch.{DecodesPitches, pitch_at}
 use Rattle.figures.specs.Codebook.{DecodesCodebooks, codebook_at}
 use Rattle.figures.proofs.Frames.{one_codebook_answer, one_pitch_answer}
-use Rattle.law.specs.GuardedBits.{corrected_packet}
-use Rattle.law.specs.Readings.{AllOnes, IsNotRead, IsRead, IsReadWithPitchOff, Reading, Reads, ReadsCodes, codebook_codes_in, pitch_codes_in, pitch_off}
+use Rattle.rules.specs.Readings.{AllOnes, IsNotRead, IsRead, IsReadWithPitchOff, Reading, Reads, ReadsCodes, codebook_codes_in, pitch_codes_in, pitch_off}
 use Rattle.law.specs.Answers.{OneReadingOfEachArrival}
 use Rattle.law.proofs.Filled.{filled, filled_front, filled_length, filled_past}
 use Rattle.law.proofs.Searches.{all_or_first}
+use Rattle.packet.specs.Changes.{corrected_packet}
 
 -- ---- the figures of some codes
 
@@ -41,7 +41,7 @@ codebook_subframes_le Rate1/2 = omega arith
 codebook_subframes_le Rate1/4 = omega arith
 codebook_subframes_le Rate1/8 = omega arith
 
-pitches_some : (rate : Rate) (codes : PitchCodes) → length codes.plag ≡ 4 → length codes.pgain ≡ 4 → (pairs : List (ℕ × ℕ)) × DecodesPitches rate codes pairs
+pub pitches_some : (rate : Rate) (codes : PitchCodes) → length codes.plag ≡ 4 → length codes.pgain ≡ 4 → (pairs : List (ℕ × ℕ)) × DecodesPitches rate codes pairs
 pitches_some rate codes plag pgain =
     let s = (rate_is rate).pitch_subframes in (
       filled 4 s (pitch_at codes) (16, 0),
@@ -54,7 +54,7 @@ pitches_some rate codes plag pgain =
       },
     )
 
-codebooks_some : (rate : Rate) (codes : CodebookCodes) → length codes.cbindex ≡ 8 → length codes.cbgain ≡ 8 → (figures : List (Option CodebookFigure)) × DecodesCodebooks rate codes figures
+pub codebooks_some : (rate : Rate) (codes : CodebookCodes) → length codes.cbindex ≡ 8 → length codes.cbgain ≡ 8 → (figures : List (Option CodebookFigure)) × DecodesCodebooks rate codes figures
 codebooks_some rate codes cbindex cbgain =
     let s = (rate_is rate).codebook_subframes in
     let front : ℕ → Option CodebookFigure = λ i. Some (codebook_at rate codes i) in (

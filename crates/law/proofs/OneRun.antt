@@ -1,21 +1,52 @@
 -- Every run of takes has one answer, and takes one after another are take calls.
-use Rattle.std.proofs.Common.{◌≡◌, ℕ, zero, suc, ◌+◌, ◌-◌, ◌<◌, ◌≤◌, List, [], ◌∷◌, ◌++◌, length, map, Some, refl, sym, ap, ap₂, subst, ◌∙◌, inl, inr, append_assoc, append-nil, arith, Ok, Err, Result, reverse, Option, None}
-use Rattle.std.proofs.lemmas.Bool.{cases_eq, cases_order}
-use Rattle.std.proofs.lemmas.List.{length-append, length-map, length_push, reverse-append}
+use Rattle.std.proofs.Common.{◌≡◌, ℕ, zero, suc, ◌+◌, ◌<◌, List, [], ◌∷◌, ◌++◌, length, map, Some, refl, sym, ap, ap₂, subst, ◌∙◌, inl, inr, append_assoc, append-nil, arith, Ok, Err, Result, reverse}
+use Rattle.std.proofs.lemmas.Bool.{cases_lt, cases_order}
+use Rattle.std.proofs.lemmas.List.{length-append, length-map, reverse-append}
 use Rattle.service.specs.declared.refusals.Refusal.{Refusal}
 use Rattle.service.specs.declared.refusals.Refusal.TheVariants.{UnlawfulReel}
 use Rattle.service.specs.declared.readings.RunEnd.{RunEnd}
 use Rattle.service.specs.declared.readings.RunEnd.TheVariants.{Wanted, RowsFull, SupplyEmpty}
-use Rattle.law.specs.Arrivals.{Arrival}
-use Rattle.law.specs.Ends.{Receiver, Taken, TakesOne, new_receiver}
-use Rattle.law.specs.Links.{Line, Link, Supply, other_supply, line_left, link_after_take, supply_left, this_line, to_come, to_come_from}
-use Rattle.law.specs.Rows.{Ended, Row, RunAnswer, RunState, RunsTakes, StartsPage, TakesAll, row_of}
-use Rattle.law.specs.Runs.{CallMade, RestartReceiver, Run, Step, Take, now, with_receiver}
+use Rattle.rules.specs.Arrivals.{Arrival}
+use Rattle.rules.specs.Ends.{Receiver, Taken, TakesOne, new_receiver}
+use Rattle.rules.specs.Links.{Line, Link, Source, other_supply, line_left, link_after_take, source_left, this_line, to_come, to_come_from}
+use Rattle.service.specs.Refusals.{Answer}
+use Rattle.rules.specs.Pages.{PageOf, header_text, refusal_line, rows_text}
+use Rattle.rules.specs.Reels.{arrivals_of}
+use Rattle.rules.specs.Rows.{Ends, GoesOn, PageRows, Row, RunAnswer, RunState, RunsTakes, StartsPage, TakesAll, row_of, rows_of}
+use Rattle.law.specs.Runs.{CallMade, RestartReceiver, Run, Step, Take, now}
 use Rattle.law.specs.Answers.{ChainOfTakesIsARun, ChainsOfTakesJoin, EachTakeIsACall, OneAnswerToEachRunOfTakes, OnePage, TakesAreCalls}
 use Rattle.law.proofs.OneTake.{take_once, take_some, takes_on, to_come_after}
 
 abbrev state : Receiver → List Arrival → List Row → RunState
 state e supply rows = record { receiver = e; supply = supply; rows = rows }
+
+-- ---- before each take
+
+-- a list of more than n, parted behind its first n
+record Parted {A : Type 0} (zs : List A) (n : ℕ) : Type 0 where
+  front : List A
+  next : A
+  back : List A
+  whole : zs ≡ front ++ (next ∷ back)
+  many : length front ≡ n
+
+part_at : {A : Type 0} (zs : List A) (n : ℕ) → n < length zs → Parted zs n
+part_at [] n h = absurd (omega arith)
+part_at (z ∷ zs) zero h = record { front = []; next = z; back = zs; whole = refl; many = refl }
+part_at (z ∷ zs) (suc n) h =
+    let r = part_at zs n (omega arith) in
+    record { front = z ∷ r.front; next = r.next; back = r.back; whole = ap (λ l. z ∷ l) r.whole; many = ap suc r.many }
+
+no_parts : {A : Type 0} (xs : List A) (y : A) (ys : List A) → [] ≡ xs ++ (y ∷ ys) → ⊥
+no_parts [] y ys e = absurd (omega (arith, ap length e))
+no_parts (x ∷ xs) y ys e = absurd (omega (arith, ap length e))
+
+-- there are as many rows as takes
+row_count : (xs : List Taken) → length (rows_of xs) ≡ length xs
+row_count xs = length-map xs row_of
+
+queue_count : (queue : List Row) (xs : List Taken) → length (queue ++ rows_of xs) ≡ length queue + length xs
+queue_count queue xs = length-append queue (rows_of xs) ∙ ap (λ n. length queue + n) (row_count xs)
 
 -- ---- a run has an answer
 
@@ -27,9 +58,9 @@ record RunAnswered (wanted places : ℕ) (e : Receiver) (supply : List Arrival) 
   runs : RunsTakes wanted places (state e supply queue) answer (state receiver rest rows)
 
 -- nothing is taken, for one of the three reasons
-none_taken : (wanted places : ℕ) (e : Receiver) (supply : List Arrival) (queue : List Row) (end : RunEnd) → length queue ≤ places → Ended end wanted 0 places (length queue) supply
-    → RunAnswered wanted places e supply queue
-none_taken wanted places e supply queue end fits ended = record {
+none_taken : (wanted places : ℕ) (e : Receiver) (supply : List Arrival) (queue : List Row) (end : RunEnd)
+    → Ends end wanted 0 places (length queue) supply → RunAnswered wanted places e supply queue
+none_taken wanted places e supply queue end ended = record {
   answer = record { rows = 0; end = end };
   receiver = e;
   rest = supply;
@@ -37,23 +68,40 @@ none_taken wanted places e supply queue end fits ended = record {
   runs = record {
     taken = [];
     takes = (refl, refl);
+    going = λ xs y ys none. absurd (no_parts xs y ys none);
     queued = sym (append-nil queue);
-    fits = fits;
     counted = refl;
-    wanted_at_most = omega arith;
     ended = ended;
   };
 }
 
-one_more_ended : (end : RunEnd) (wanted n places queued : ℕ) (rest : List Arrival) → Ended end wanted n places queued rest → Ended end (suc wanted) (suc n) places queued rest
-one_more_ended Wanted wanted n places queued rest e = ap suc e
+one_more_ended : (end : RunEnd) (wanted n places queued : ℕ) (rest : List Arrival) → Ends end wanted n places queued rest
+    → Ends end (suc wanted) (suc n) places queued rest
+one_more_ended Wanted wanted n places queued rest l = omega arith
 one_more_ended RowsFull wanted n places queued rest (l, e) = (omega arith, e)
 one_more_ended SupplyEmpty wanted n places queued rest (l, h, e) = (omega arith, h, e)
 
+-- the takes behind the first go on as those of the run that begins there
+still_going : (wanted places : ℕ) (queue : List Row) (x : Taken) (taken : List Taken) → length queue < places
+    → ((xs : List Taken) (y : Taken) (ys : List Taken) → taken ≡ xs ++ (y ∷ ys)
+    → GoesOn wanted (length (rows_of xs)) places (length ((queue ++ (row_of x ∷ [])) ++ rows_of xs)))
+    → (xs : List Taken) (y : Taken) (ys : List Taken) → x ∷ taken ≡ xs ++ (y ∷ ys)
+    → GoesOn (suc wanted) (length (rows_of xs)) places (length (queue ++ rows_of xs))
+still_going wanted places queue x taken room going [] y ys e =
+    record { wanted_more = omega arith; room = omega (arith, length-append queue []) }
+still_going wanted places queue x taken room going (z ∷ zs) y ys e =
+    let first : x ≡ z = cc in
+    let others : taken ≡ zs ++ (y ∷ ys) = cc in
+    let on = going zs y ys others in
+    let same : length ((queue ++ (row_of x ∷ [])) ++ rows_of zs) ≡ length (queue ++ (row_of z ∷ rows_of zs)) =
+    ap length (append_assoc queue (row_of x ∷ []) (rows_of zs)) ∙ ap (λ q. length (queue ++ (row_of q ∷ rows_of zs))) first in
+    record { wanted_more = let l = on.wanted_more in omega arith; room = let l = on.room in omega (arith, same) }
+
 -- one is taken, and then the others
-one_more_taken : (wanted places : ℕ) (e d : Receiver) (a : Arrival) (supply : List Arrival) (queue : List Row) (x : Taken) → TakesOne e (a ∷ supply) x d supply
+one_more_taken : (wanted places : ℕ) (e d : Receiver) (a : Arrival) (supply : List Arrival) (queue : List Row) (x : Taken)
+    → length queue < places → TakesOne e (a ∷ supply) x d supply
     → RunAnswered wanted places d supply (queue ++ (row_of x ∷ [])) → RunAnswered (suc wanted) places e (a ∷ supply) queue
-one_more_taken wanted places e d a supply queue x one r =
+one_more_taken wanted places e d a supply queue x room one r =
     let q = r.runs in
     record {
       answer = record { rows = suc r.answer.rows; end = r.answer.end };
@@ -63,27 +111,24 @@ one_more_taken wanted places e d a supply queue x one r =
       runs = record {
         taken = x ∷ q.taken;
         takes = (d, supply, one, q.takes);
-        queued = q.queued ∙ append_assoc queue (row_of x ∷ []) (map row_of q.taken);
-        fits = q.fits;
+        going = still_going wanted places queue x q.taken room q.going;
+        queued = q.queued ∙ append_assoc queue (row_of x ∷ []) (rows_of q.taken);
         counted = ap suc q.counted;
-        wanted_at_most = let l = q.wanted_at_most in omega arith;
-        ended = one_more_ended r.answer.end wanted (length q.taken) places (length r.rows) r.rest q.ended;
+        ended = one_more_ended r.answer.end wanted r.answer.rows places (length r.rows) r.rest q.ended;
       };
     }
 
-run_some : (wanted places : ℕ) (e : Receiver) (supply : List Arrival) (queue : List Row) → length queue ≤ places → RunAnswered wanted places e supply queue
-run_some zero places e supply queue fits = none_taken 0 places e supply queue Wanted fits refl
-run_some (suc wanted) places e [] queue fits = elim (cases_eq (length queue) places) [
-  | inl full ↦ none_taken (suc wanted) places e [] queue RowsFull fits (omega arith, full)
-  | inr not ↦ none_taken (suc wanted) places e [] queue SupplyEmpty fits (omega arith, grind arith, refl)
+run_some : (wanted places : ℕ) (e : Receiver) (supply : List Arrival) (queue : List Row) → RunAnswered wanted places e supply queue
+run_some zero places e supply queue = none_taken 0 places e supply queue Wanted (omega arith)
+run_some (suc wanted) places e [] queue = elim (cases_lt (length queue) places) [
+  | inl room ↦ none_taken (suc wanted) places e [] queue SupplyEmpty (omega arith, room, refl)
+  | inr full ↦ none_taken (suc wanted) places e [] queue RowsFull (omega arith, full)
 ]
-run_some (suc wanted) places e (a ∷ supply) queue fits = elim (cases_eq (length queue) places) [
-  | inl full ↦ none_taken (suc wanted) places e (a ∷ supply) queue RowsFull fits (omega arith, full)
-  | inr not ↦
+run_some (suc wanted) places e (a ∷ supply) queue = elim (cases_lt (length queue) places) [
+  | inl room ↦
       let (x, d, one) = take_some e a supply in
-      let less : length queue < places = grind arith in
-      one_more_taken wanted places e d a supply queue x one
-      (run_some wanted places d supply (queue ++ (row_of x ∷ [])) (omega (arith, length_push queue (row_of x))))
+      one_more_taken wanted places e d a supply queue x room one (run_some wanted places d supply (queue ++ (row_of x ∷ [])))
+  | inr full ↦ none_taken (suc wanted) places e (a ∷ supply) queue RowsFull (omega arith, full)
 ]
 
 -- ---- and one only
@@ -110,30 +155,34 @@ takes_length e supply [] d rest (kept, left) = let l = ap length left in omega a
 takes_length e supply (x ∷ xs) d rest (c, list, one, more) =
     let l = ap length one.first in let m = takes_length c list xs d rest more in omega arith
 
--- how many rows a run leaves
-queue_length : (queue rows : List Row) (xs : List Taken) → rows ≡ queue ++ map row_of xs → length rows ≡ length queue + length xs
-queue_length queue rows xs e = ap length e ∙ length-append queue (map row_of xs) ∙ ap (λ n. length queue + n) (length-map xs row_of)
-
 -- a run that has ended does not go on
-ended_not_more : (end : RunEnd) (wanted n m places queued more : ℕ) (rest : List Arrival) → Ended end wanted n places queued rest
-    → m ≤ wanted → queued + more ≤ places → more ≤ length rest → n + more ≡ m → more ≡ 0
-ended_not_more Wanted wanted n m places queued more rest e l h g s = omega arith
-ended_not_more RowsFull wanted n m places queued more rest (k, e) l h g s = omega arith
-ended_not_more SupplyEmpty wanted n m places queued more rest (k, u, e) l h g s = let z = ap length e in omega arith
+ended_not_more : (end : RunEnd) (wanted n places queued left : ℕ) (rest : List Arrival) → Ends end wanted n places queued rest
+    → left ≡ length rest → n < wanted → queued < places → 0 < left → ⊥
+ended_not_more Wanted wanted n places queued left rest e l w p g = omega arith
+ended_not_more RowsFull wanted n places queued left rest (k, e) l w p g = omega arith
+ended_not_more SupplyEmpty wanted n places queued left rest (k, u, e) l w p g = let z = ap length e in omega arith
 
 module _ (wanted places : ℕ) (e : Receiver) (supply : List Arrival) (queue : List Row) where
+  -- before take n + 1 of a run
+  goes_on_at : (a : RunAnswer) (d : Receiver) (rest : List Arrival) (rows : List Row) (r : RunsTakes wanted places (state e supply queue) a (state d rest rows)) (n : ℕ)
+      → n < length r.taken → (n < wanted) × (length queue + n < places)
+  goes_on_at a d rest rows r n l =
+      let p = part_at r.taken n l in
+      let on = r.going p.front p.next p.back p.whole in
+      let w = on.wanted_more in
+      let m = on.room in
+      (omega (arith, row_count p.front, p.many), omega (arith, queue_count queue p.front, p.many))
+
   not_shorter : (a a' : RunAnswer) (d d' : Receiver) (rest rest' : List Arrival) (rows rows' : List Row) (r : RunsTakes wanted places (state e supply queue) a (state d rest rows))
       (q : RunsTakes wanted places (state e supply queue) a' (state d' rest' rows')) → length r.taken < length q.taken → ⊥
   not_shorter a a' d d' rest rest' rows rows' r q less =
       let n = length r.taken in
-      let m = length q.taken in
+      let on = goes_on_at a' d' rest' rows' q n less in
       let long = takes_length e supply r.taken d rest r.takes in
       let long' = takes_length e supply q.taken d' rest' q.takes in
-      let many = queue_length queue rows r.taken r.queued in
-      let many' = queue_length queue rows' q.taken q.queued in
-      let fits = q.fits in
-      let more = ended_not_more a.end wanted n m places (length rows) (m - n) rest r.ended q.wanted_at_most (omega arith) (omega arith) (omega arith) in
-      omega arith
+      let many : a.rows ≡ n = r.counted ∙ row_count r.taken in
+      let long_queue : length rows ≡ length queue + n = ap length r.queued ∙ queue_count queue r.taken in
+      ended_not_more a.end wanted a.rows places (length rows) (length rest) rest r.ended refl (omega (arith, on.0)) (omega (arith, on.1)) (omega arith)
 
   as_many : (a a' : RunAnswer) (d d' : Receiver) (rest rest' : List Arrival) (rows rows' : List Row) (r : RunsTakes wanted places (state e supply queue) a (state d rest rows))
       (q : RunsTakes wanted places (state e supply queue) a' (state d' rest' rows')) → length r.taken ≡ length q.taken
@@ -144,7 +193,7 @@ module _ (wanted places : ℕ) (e : Receiver) (supply : List Arrival) (queue : L
   ]
 
   end_once : (end end' : RunEnd) (n m queued queued' : ℕ) (rest rest' : List Arrival) → n ≡ m → queued ≡ queued'
-      → Ended end wanted n places queued rest → Ended end' wanted m places queued' rest' → end ≡ end'
+      → Ends end wanted n places queued rest → Ends end' wanted m places queued' rest' → end ≡ end'
   end_once Wanted Wanted n m queued queued' rest rest' e d p q = refl
   end_once Wanted RowsFull n m queued queued' rest rest' e d p (l, k) = absurd (omega arith)
   end_once Wanted SupplyEmpty n m queued queued' rest rest' e d p (l, h, k) = absurd (omega arith)
@@ -163,16 +212,17 @@ module _ (wanted places : ℕ) (e : Receiver) (supply : List Arrival) (queue : L
   run_once a a' d d' rest rest' rows rows' r q =
       let long = as_many a a' d d' rest rest' rows rows' r q in
       let same = takes_once e supply r.taken q.taken d d' rest rest' long r.takes q.takes in
-      let queues : rows ≡ rows' = r.queued ∙ ap (λ xs. queue ++ map row_of xs) same.taken ∙ sym q.queued in
-      let end : a.end ≡ a'.end = end_once a.end a'.end (length r.taken) (length q.taken) (length rows) (length rows') rest rest' long (ap length queues) r.ended q.ended in (
-        ap (λ n. answer_of n a.end) (r.counted ∙ long ∙ sym q.counted) ∙ ap (λ x. answer_of a'.rows x) end,
+      let queues : rows ≡ rows' = r.queued ∙ ap (λ xs. queue ++ rows_of xs) same.taken ∙ sym q.queued in
+      let counts : a.rows ≡ a'.rows = r.counted ∙ ap (λ xs. length (rows_of xs)) same.taken ∙ sym q.counted in
+      let end : a.end ≡ a'.end = end_once a.end a'.end a.rows a'.rows (length rows) (length rows') rest rest' counts (ap length queues) r.ended q.ended in (
+        ap (λ n. answer_of n a.end) counts ∙ ap (λ x. answer_of a'.rows x) end,
         ap₂ (λ x y. state x y rows) same.receiver same.supply ∙ ap (state d' rest') queues,
       )
 
 pub one_run : OneAnswerToEachRunOfTakes
 one_run = record {
-  some = λ wanted places s h.
-      let r = run_some wanted places s.receiver s.supply s.rows h in
+  some = λ wanted places s.
+      let r = run_some wanted places s.receiver s.supply s.rows in
       (r.answer, state r.receiver r.rest r.rows, r.runs);
   only = λ wanted places s t t' a a' r q.
       run_once wanted places s.receiver s.supply s.rows a a' t.receiver t'.receiver t.supply t'.supply t.rows t'.rows r q;
@@ -180,33 +230,33 @@ one_run = record {
 
 -- ---- takes one after another are calls
 
-line_as_is : (u : Supply) (line : Line) → line_left u (to_come_from u line) line ≡ line
+line_as_is : (u : Source) (line : Line) → line_left u (to_come_from u line) line ≡ line
 line_as_is this_line line = refl
 line_as_is (other_supply list) line = refl
 
-supply_as_is : (u : Supply) (line : Line) → supply_left u (to_come_from u line) ≡ u
-supply_as_is this_line line = refl
-supply_as_is (other_supply list) line = refl
+source_as_is : (u : Source) (line : Line) → source_left u (to_come_from u line) ≡ u
+source_as_is this_line line = refl
+source_as_is (other_supply list) line = refl
 
-line_left_again : (u : Supply) (line : Line) (list rest : List Arrival) → line_left (supply_left u list) rest (line_left u list line) ≡ line_left u rest line
+line_left_again : (u : Source) (line : Line) (list rest : List Arrival) → line_left (source_left u list) rest (line_left u list line) ≡ line_left u rest line
 line_left_again this_line line list rest = refl
 line_left_again (other_supply l) line list rest = refl
 
-supply_left_again : (u : Supply) (list rest : List Arrival) → supply_left (supply_left u list) rest ≡ supply_left u rest
-supply_left_again this_line list rest = refl
-supply_left_again (other_supply l) list rest = refl
+source_left_again : (u : Source) (list rest : List Arrival) → source_left (source_left u list) rest ≡ source_left u rest
+source_left_again this_line list rest = refl
+source_left_again (other_supply l) list rest = refl
 
-abbrev link_of : Link → Receiver → Line → Supply → Link
-link_of s e line supply = record { sender = s.sender; line = line; receiver = e; supply = supply }
+abbrev link_of : Link → Receiver → Line → Source → Link
+link_of s e line source = record s { line = line; receiver = e; source = source }
 
 -- nothing taken
 link_as_is : (s : Link) → s ≡ link_after_take s.receiver (to_come s) s
-link_as_is s = sym (ap₂ (λ line u. link_of s s.receiver line u) (line_as_is s.supply s.line) (supply_as_is s.supply s.line))
+link_as_is s = sym (ap₂ (λ line u. link_of s s.receiver line u) (line_as_is s.source s.line) (source_as_is s.source s.line))
 
 -- taken, and taken once more
 link_taken_again : (e d : Receiver) (list rest : List Arrival) (s : Link) → link_after_take e rest (link_after_take d list s) ≡ link_after_take e rest s
 link_taken_again e d list rest s =
-    ap₂ (λ line u. link_of s e line u) (line_left_again s.supply s.line list rest) (supply_left_again s.supply list rest)
+    ap₂ (λ line u. link_of s e line u) (line_left_again s.source s.line list rest) (source_left_again s.source list rest)
 
 -- a call before a history
 module _ (s : Link) (m : CallMade) where
@@ -270,23 +320,43 @@ page_some e (a ∷ supply) =
     let (xs, d, more) = page_some b supply in
     (x ∷ xs, d, (b, supply, one, more))
 
-start_some : (reel : Option (List Arrival)) (e : Receiver) → (r : Result (List Arrival) Refusal) × (d : Receiver) × StartsPage reel e r d
-start_some (Some list) e = (Ok list, new_receiver, (refl, refl))
-start_some None e = (Err UnlawfulReel, e, refl)
+start_some : (reel : Result (List Arrival) Answer) (e : Receiver) → (r : Result (List Arrival) Refusal) × (d : Receiver) × StartsPage reel e r d
+start_some (Ok list) e = (Ok list, new_receiver, (refl, refl))
+start_some (Err cause) e = (Err UnlawfulReel, e, refl)
 
 -- what the page call does, by whether the reel is lawful
-start_is : (reel : Option (List Arrival)) (e d : Receiver) (r : Result (List Arrival) Refusal) → StartsPage reel e r d → (r ≡ (start_some reel e).0) × (d ≡ (start_some reel e).1)
+start_is : (reel : Result (List Arrival) Answer) (e d : Receiver) (r : Result (List Arrival) Refusal) → StartsPage reel e r d
+    → (r ≡ (start_some reel e).0) × (d ≡ (start_some reel e).1)
 unfolding start_some
-start_is (Some list) e d (Ok supply) (is, new) = (ap Ok is, new)
-start_is (Some list) e d (Err r) none = absurd none
-start_is None e d (Ok supply) none = absurd none
-start_is None e d (Err UnlawfulReel) kept = (refl, kept)
-start_is None e d (Err r) none = absurd none
+start_is (Ok list) e d (Ok supply) (is, new) = (ap Ok is, new)
+start_is (Ok list) e d (Err r) none = absurd none
+start_is (Err cause) e d (Ok supply) none = absurd none
+start_is (Err cause) e d (Err UnlawfulReel) kept = (refl, kept)
+start_is (Err cause) e d (Err r) none = absurd none
 
-start_restarts : (reel : Option (List Arrival)) (s : Link) (supply : List Arrival) (e : Receiver) → StartsPage reel s.receiver (Ok supply) e
-    → Step s RestartReceiver (with_receiver e s)
-start_restarts (Some list) s supply e (is, new) = ap (λ d. with_receiver d s) new
-start_restarts None s supply e none = absurd none
+start_restarts : (reel : Result (List Arrival) Answer) (s : Link) (supply : List Arrival) (e : Receiver) → StartsPage reel s.receiver (Ok supply) e
+    → Step s RestartReceiver (record s { receiver = e })
+start_restarts (Ok list) s supply e (is, new) = ap (λ d. record s { receiver = d }) new
+start_restarts (Err cause) s supply e none = absurd none
+
+rows_some : (supply : List Arrival) → (rows : List Row) × PageRows supply rows
+rows_some supply = let (xs, d, takes) = page_some new_receiver supply in (rows_of xs, (xs, d, takes, refl))
+
+rows_once : (supply : List Arrival) (rows rows' : List Row) → PageRows supply rows → PageRows supply rows' → rows ≡ rows'
+rows_once supply rows rows' (xs, d, takes, is) (ys, d', takes', is') =
+    let l = takes_length new_receiver supply xs d [] takes in
+    let l' = takes_length new_receiver supply ys d' [] takes' in
+    let same = takes_once new_receiver supply xs ys d d' [] [] (omega (arith, l, l')) takes takes' in
+    is ∙ ap rows_of same.taken ∙ sym is'
+
+text_some : (reel : Result (List Arrival) Answer) → (text : List ℕ) × PageOf reel text
+text_some (Ok supply) = let (rows, page) = rows_some supply in (header_text ++ rows_text 1 rows, (rows, page, refl))
+text_some (Err cause) = (refusal_line UnlawfulReel, refl)
+
+text_once : (reel : Result (List Arrival) Answer) (text text' : List ℕ) → PageOf reel text → PageOf reel text' → text ≡ text'
+text_once (Ok supply) text text' (rows, page, is) (rows', page', is') =
+    is ∙ ap (λ l. header_text ++ rows_text 1 l) (rows_once supply rows rows' page page') ∙ sym is'
+text_once (Err cause) text text' is is' = is ∙ sym is'
 
 pub one_page : OnePage
 one_page = record {
@@ -296,10 +366,8 @@ one_page = record {
       let q = start_is reel e d' r' b in
       (p.0 ∙ sym q.0, p.1 ∙ sym q.1);
   restarts = start_restarts;
-  some = λ supply. let (xs, d, takes) = page_some new_receiver supply in (map row_of xs, (xs, d, takes, refl));
-  only = λ supply rows rows' (xs, d, takes, is) (ys, d', takes', is').
-      let l = takes_length new_receiver supply xs d [] takes in
-      let l' = takes_length new_receiver supply ys d' [] takes' in
-      let same = takes_once new_receiver supply xs ys d d' [] [] (omega (arith, l, l')) takes takes' in
-      is ∙ ap (map row_of) same.taken ∙ sym is';
+  some = rows_some;
+  only = rows_once;
+  text = λ bytes. text_some (arrivals_of bytes);
+  only_text = λ bytes. text_once (arrivals_of bytes);
 }

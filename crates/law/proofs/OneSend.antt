@@ -12,13 +12,15 @@ use Rattle.packet.specs.Calls.{packet}
 use Rattle.service.specs.FirstToFail.{FirstToFail}
 use Rattle.figures.specs.Codebook.{codebook_allowed, parameter_at}
 use Rattle.figures.specs.Pitch.{pair_at, pitch_allowed}
-use Rattle.law.specs.Sending.{AreComplete, CodebooksAllowed, CodesFrame, FrequenciesAllowed, NoDraw, Parameters, PitchesAllowed, Sent, arrival_sent, frequency_allowed, frequency_at, sender_after}
+use Rattle.rules.specs.Sending.{send_answer, AreComplete, CodebooksAllowed, CodesFrame, AllDrawsAllOnes, Parameters, PitchesAllowed, Sent, arrival_sent, sender_after}
 use Rattle.law.proofs.Sent.{sent_bytes}
-use Rattle.law.specs.Ends.{Sender}
-use Rattle.law.specs.Links.{HasRoom, IsFull, Line, Sends, with_last}
+use Rattle.rules.specs.Ends.{Sender}
+use Rattle.rules.specs.Links.{SendAnswers, HasRoom, IsFull, Line, Sends, with_last}
+use Rattle.law.specs.Answers.{OneSendAnswer}
 use Rattle.law.proofs.Encoded.{codes_or_none, draws_once, encoded_once, no_draw_made, same_codes}
 use Rattle.law.proofs.Once.{Once, either_once, guard_once, leaf_once}
 use Rattle.law.proofs.Searches.{all_or_first, first_once}
+use Rattle.lsp.specs.Offsets.{FrequenciesAllowed, frequency_allowed, frequency_at}
 
 -- ---- the first that does not pass
 
@@ -96,7 +98,7 @@ module _ (e : Sender) (line : Line) (n : ℕ) (p : Parameters) where
   not_passed out limit passes refusal x (i, f, is) all = false≢true (sym f.fails ∙ all i f.within)
 
   abbrev NoDrawIsLeft : Rate → Outcome → Type 0
-  NoDrawIsLeft rate x = NoDraw rate p e.memories e.seed × (x ≡ refused AllOnesDrawn)
+  NoDrawIsLeft rate x = AllDrawsAllOnes rate p e.memories e.seed × (x ≡ refused AllOnesDrawn)
 
   abbrev IsSent : Rate → Outcome → Type 0
   IsSent rate x = (f : Sent) × CodesFrame rate p e f × (x ≡ (Ok f, sender_after p f e, with_last (arrival_sent f) line))
@@ -129,7 +131,7 @@ module _ (e : Sender) (line : Line) (n : ℕ) (p : Parameters) where
   AtPitches rate x = PitchFails rate x ⊎ (PitchesAllowed rate p × AtCodebooks rate x)
 
   abbrev AtFrequencies : Rate → Outcome → Type 0
-  AtFrequencies rate x = FrequencyFails x ⊎ (FrequenciesAllowed p × AtPitches rate x)
+  AtFrequencies rate x = FrequencyFails x ⊎ (FrequenciesAllowed p.frequencies × AtPitches rate x)
 
   abbrev AtRoom : Rate → Outcome → Type 0
   AtRoom rate x = (IsFull line × (x ≡ refused LineFull)) ⊎ (HasRoom line × AtFrequencies rate x)
@@ -149,7 +151,7 @@ module _ (e : Sender) (line : Line) (n : ℕ) (p : Parameters) where
 
   at_draws_once : (rate : Rate) → Once (AtDraws rate)
   at_draws_once rate =
-      either_once (NoDrawIsLeft rate) (IsSent rate) (draws_apart rate) (leaf_once (NoDraw rate p e.memories e.seed) (refused AllOnesDrawn)) (sent_once rate)
+      either_once (NoDrawIsLeft rate) (IsSent rate) (draws_apart rate) (leaf_once (AllDrawsAllOnes rate p e.memories e.seed) (refused AllOnesDrawn)) (sent_once rate)
 
   at_codebooks_once : (rate : Rate) → Once (AtCodebooks rate)
   at_codebooks_once rate =
@@ -165,7 +167,7 @@ module _ (e : Sender) (line : Line) (n : ℕ) (p : Parameters) where
 
   at_frequencies_once : (rate : Rate) → Once (AtFrequencies rate)
   at_frequencies_once rate =
-      guard_once FrequencyFails (FrequenciesAllowed p) (AtPitches rate)
+      guard_once FrequencyFails (FrequenciesAllowed p.frequencies) (AtPitches rate)
       (not_passed refused 10 frequency_passes (λ i. Frequency i)) (fails_once refused 10 frequency_passes (λ i. Frequency i)) (at_pitches_once rate)
 
   at_room_once : (rate : Rate) → Once (AtRoom rate)
@@ -217,7 +219,7 @@ module _ (e : Sender) (line : Line) (n : ℕ) (p : Parameters) where
   HasAnswer : Type 0
   HasAnswer = (r : Result Sent Refusal) × (e' : Sender) × (line' : Line) × Sends e line n p r e' line'
 
-  at_draws : AreComplete p → (rate : Rate) → (rate_is rate).number ≡ n → HasRoom line → FrequenciesAllowed p → PitchesAllowed rate p → CodebooksAllowed rate p → HasAnswer
+  at_draws : AreComplete p → (rate : Rate) → (rate_is rate).number ≡ n → HasRoom line → FrequenciesAllowed p.frequencies → PitchesAllowed rate p → CodebooksAllowed rate p → HasAnswer
   unfolding HasAnswer
   at_draws complete rate is room frequencies pitches codebooks = elim (codes_or_none rate p e.memories e.seed complete pitches codebooks) [
     | inl (c, m, encodes, d) ↦
@@ -238,14 +240,14 @@ module _ (e : Sender) (line : Line) (n : ℕ) (p : Parameters) where
     | inr none ↦ (Err AllOnesDrawn, e, line, (complete, (rate, (is, room), (frequencies, pitches, codebooks, none)), refl, refl))
   ]
 
-  at_codebooks : AreComplete p → (rate : Rate) → (rate_is rate).number ≡ n → HasRoom line → FrequenciesAllowed p → PitchesAllowed rate p → HasAnswer
+  at_codebooks : AreComplete p → (rate : Rate) → (rate_is rate).number ≡ n → HasRoom line → FrequenciesAllowed p.frequencies → PitchesAllowed rate p → HasAnswer
   unfolding HasAnswer
   at_codebooks complete rate is room frequencies pitches = elim (all_or_fails (codebook_passes rate) (rate_is rate).codebook_subframes) [
     | inl codebooks ↦ at_draws complete rate is room frequencies pitches codebooks
     | inr (i, f) ↦ (Err (Codebook (i + 1)), e, line, (complete, (rate, (is, room), (frequencies, pitches, (i, f, refl))), refl, refl))
   ]
 
-  at_pitches : AreComplete p → (rate : Rate) → (rate_is rate).number ≡ n → HasRoom line → FrequenciesAllowed p → HasAnswer
+  at_pitches : AreComplete p → (rate : Rate) → (rate_is rate).number ≡ n → HasRoom line → FrequenciesAllowed p.frequencies → HasAnswer
   unfolding HasAnswer
   at_pitches complete rate is room frequencies = elim (all_or_fails pitch_passes (rate_is rate).pitch_subframes) [
     | inl pitches ↦ at_codebooks complete rate is room frequencies pitches
@@ -268,3 +270,27 @@ module _ (e : Sender) (line : Line) (n : ℕ) (p : Parameters) where
       | inl room ↦ at_frequencies complete rate is room
     ]
   ]
+
+-- ---- what it answers its caller
+
+-- behind an answer stands what was sent
+sent_behind : (e d : Sender) (line l : Line) (n : ℕ) (p : Parameters) (r : Result ℕ Refusal) → SendAnswers e line n p r d l
+    → (s : Result Sent Refusal) × (send_answer s ≡ r) × Sends e line n p s d l
+sent_behind e d line l n p (Ok draws) (f, is, h) = (Ok f, ap Ok is, h)
+sent_behind e d line l n p (Err refusal) h = (Err refusal, refl, h)
+
+answers_as_sent : (e d : Sender) (line l : Line) (n : ℕ) (p : Parameters) (s : Result Sent Refusal) → Sends e line n p s d l
+    → SendAnswers e line n p (send_answer s) d l
+answers_as_sent e d line l n p (Ok f) h = (f, refl, h)
+answers_as_sent e d line l n p (Err refusal) h = h
+
+pub one_send_answer : OneSendAnswer
+one_send_answer = record {
+  some = λ e line n p complete.
+      let (s, d, l, h) = send_some e line n p complete in (send_answer s, d, l, answers_as_sent e d line l n p s h);
+  only = λ e d d' line l l' n p r r' a b.
+      let (s, is, h) = sent_behind e d line l n p r a in
+      let (s', is', h') = sent_behind e d' line l' n p r' b in
+      let same = send_once e line n p s s' d d' l l' h h' in
+      (sym is ∙ ap send_answer same.0 ∙ is', same.1, same.2);
+}

@@ -19,9 +19,9 @@ use Rattle.packet.proofs.Numbers.{bit_lt}
 use Rattle.packet.proofs.Packets.{each_bit}
 use Rattle.packet.proofs.Trips.{unpacking_returns}
 use Rattle.figures.proofs.Frames.{encoded_codes_fit}
-use Rattle.law.specs.Arrivals.{are_bytes, is_lawful}
-use Rattle.law.specs.Sending.{CodesFrame, Draws, Encodes, Parameters, Sent, arrival_sent, cbseed_of, drawn}
-use Rattle.law.specs.Ends.{Sender}
+use Rattle.rules.specs.Arrivals.{are_bytes, is_lawful}
+use Rattle.rules.specs.Sending.{CodesFrame, DrawsCbseed, Encodes, Parameters, Sent, arrival_sent, cbseed_of, drawn}
+use Rattle.rules.specs.Ends.{Sender}
 use Rattle.law.proofs.Steps.{lsp_bits, top_is}
 
 -- ten values are ten
@@ -46,7 +46,7 @@ seed_fits : (n : ℕ) → n < 16 → Fits Eighth Cbseed (n ∷ [])
 seed_fits n h zero lt = h
 seed_fits n h (suc i) lt = absurd (omega arith)
 
-cbseed_fits : (rate : Rate) (c : CodeNumbers) (seed n : ℕ) → Draws rate c seed n → Fits rate Cbseed (c.cbseed ∷ [])
+cbseed_fits : (rate : Rate) (c : CodeNumbers) (seed n : ℕ) → DrawsCbseed rate c seed n → Fits rate Cbseed (c.cbseed ∷ [])
 cbseed_fits Full c seed n h = none_fits Full c.cbseed h.1
 cbseed_fits Half c seed n h = none_fits Half c.cbseed h.1
 cbseed_fits Quarter c seed n h = none_fits Quarter c.cbseed h.1

@@ -1,11 +1,13 @@
 -- From every link each list of commands has one run.
-use Rattle.std.proofs.Common.{◌≡◌, List, [], ◌∷◌, ◌++◌, length, map, reverse, refl, sym, ap, ap₂, ◌∙◌, subst, arith}
+use Rattle.std.proofs.Common.{◌≡◌, List, [], ◌∷◌, ◌++◌, length, map, reverse, Some, Option, refl, sym, ap, ap₂, ◌∙◌, subst, arith}
 use Rattle.std.proofs.lemmas.List.{map-append, reverse-append}
-use Rattle.law.specs.Links.{Link}
+use Rattle.rules.specs.Links.{Link}
 use Rattle.law.specs.Runs.{Call, CallMade, Run, Step, now}
-use Rattle.law.specs.Answers.{AreAllComplete, Command, IsSession, OneSessionOfCommands, command_of}
+use Rattle.law.specs.Answers.{Command, command_of}
 use Rattle.law.proofs.OneAnswer.{one_answer}
 use Rattle.law.proofs.OneRun.{run_before}
+use Rattle.law.specs.Sessions.{AreAllComplete, Gives, IsSession, OneOutcomeOfASession, OneSessionOfCommands, Outcome, Session, SessionsGrow, outcome_of}
+use Rattle.law.proofs.Every.{carried_over, every_run_throughout}
 
 abbrev command_made : CallMade → Command
 command_made m = command_of m.call
@@ -68,4 +70,49 @@ pub one_session : OneSessionOfCommands
 one_session = record {
   some = session_some;
   only = λ s commands h h' a b. histories_once s h h' (backward s commands h a ∙ sym (backward s commands h' b)) a.run b.run;
+}
+
+-- ---- what commands give
+
+pub one_outcome : OneOutcomeOfASession
+one_outcome s t t' commands outcomes outcomes' a b =
+    let same : a.history ≡ b.history = one_session.only s commands a.history b.history a.session b.session in (
+      sym a.given ∙ ap (λ h. map (λ m. Some (outcome_of m)) (reverse h)) same ∙ b.given,
+      sym a.carried.link ∙ ap (now s) same ∙ b.carried.link,
+    )
+
+-- what is read off the calls of a history, with one call more
+one_read : {A : Type 0} (f : CallMade → A) (m : CallMade) (h : List CallMade) (xs : List A) → map f (reverse h) ≡ xs
+    → map f (reverse (m ∷ h)) ≡ xs ++ (f m ∷ [])
+one_read f m h xs e =
+    ap (map f) (reverse-append (m ∷ []) h) ∙ map-append f (reverse h) (m ∷ []) ∙ ap (λ l. l ++ (f m ∷ [])) e
+
+session_more : (s t u : Link) (commands : List Command) (outcomes : List (Option Outcome)) (command : Command) (outcome : Outcome)
+    → Session s commands outcomes t → Gives t command outcome u
+    → Session s (commands ++ (command ∷ [])) (outcomes ++ (Some outcome ∷ [])) u
+session_more s t u commands outcomes command outcome a g =
+    let m : CallMade = record { call = g.call; link = u } in
+    let step : Step (now s a.history) g.call u = subst (λ l. Step l g.call u) (sym a.carried.link) g.step in
+    let run : Run s (m ∷ a.history) = (step, a.session.run) in
+    record {
+      history = m ∷ a.history;
+      session = record {
+        run = run;
+        given = one_read command_made m a.history commands a.session.given ∙ ap (λ c. commands ++ (c ∷ [])) g.given;
+      };
+      given = one_read (λ k. Some (outcome_of k)) m a.history outcomes a.given ∙ ap (λ o. outcomes ++ (Some o ∷ [])) g.outcome_is;
+      carried = carried_over s (m ∷ a.history) run;
+      law = λ new. every_run_throughout s (m ∷ a.history) new run;
+    }
+
+pub sessions_grow : SessionsGrow
+sessions_grow = record {
+  none = λ s. record {
+    history = [];
+    session = record { run = tt; given = refl };
+    given = refl;
+    carried = carried_over s [] tt;
+    law = λ new. every_run_throughout s [] new tt;
+  };
+  more = session_more;
 }

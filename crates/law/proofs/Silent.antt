@@ -2,6 +2,7 @@
 use Rattle.std.proofs.Common.{◌≡◌, ℕ, zero, suc, ◌<◌, List, length, replicate, slice_index, Some, None, Option, refl, sym, ap₂, ◌∙◌, inl, inr, arith}
 use Rattle.std.proofs.lemmas.List.{get_or-replicate}
 use Rattle.std.proofs.lemmas.Nat.{pow_pos}
+use Rattle.service.specs.declared.rates.Rate.{Rate}
 use Rattle.service.specs.declared.rates.Rate.TheVariants.{Full as Rate1}
 use Rattle.service.specs.declared.categories.Category.TheVariants.{Full, Suspect}
 use Rattle.service.specs.declared.readings.Letter.TheVariants.{C, P, S, D}
@@ -15,10 +16,10 @@ use Rattle.packet.specs.Codes.{Within}
 use Rattle.figures.specs.declared.codebook.CodebookFigure.{CodebookFigure}
 use Rattle.figures.specs.Codebook.{DecodesCodebooks, figure_of_codes}
 use Rattle.figures.specs.Pitch.{DecodesPitches, pitch_of, no_pitch}
-use Rattle.law.specs.GuardedBits.{corrected_packet, with_bit_changed}
-use Rattle.law.specs.Readings.{Reading, Reads, ReadsCodes, codebook_codes_in, pitch_codes_in, pitch_off}
+use Rattle.rules.specs.Readings.{Reading, Reads, ReadsCodes, codebook_codes_in, pitch_codes_in, pitch_off}
 use Rattle.law.proofs.Corrected.{both_changed_corrects_none, both_changed_syndrome, one_changed_corrects, one_changed_holds, pcb0_changed_holds, pcb0_changed_syndrome, sent_holds, sent_syndrome}
 use Rattle.law.proofs.Sent.{lsp_fits}
+use Rattle.packet.specs.Changes.{corrected_packet, with_bit_changed}
 
 abbrev pub silent : List ℕ → CodeNumbers
 silent lsp = record { lsp = lsp; plag = replicate 4 0; pgain = replicate 4 0; cbindex = replicate 8 0; cbgain = replicate 8 0; cbseed = 0 }
@@ -28,18 +29,18 @@ zero_at zero i = refl
 zero_at (suc n) zero = refl
 zero_at (suc n) (suc i) = zero_at n i
 
-zeros_fit : (name : CodeName) (n : ℕ) → Fits Rate1 name (replicate n 0)
-zeros_fit name n i h = omega (arith, zero_at n i, pow_pos (bits_at Rate1 name i))
+pub zeros_fit : (rate : Rate) (name : CodeName) (n : ℕ) → Fits rate name (replicate n 0)
+zeros_fit rate name n i h = omega (arith, zero_at n i, pow_pos (bits_at rate name i))
 
 pub silent_within : (lsp : List ℕ) → length lsp ≡ 10 → LspWithin Rate1 lsp → Within Rate1 (silent lsp)
 silent_within lsp long within = record {
   sized = record { lsp = long; plag = refl; pgain = refl; cbindex = refl; cbgain = refl };
   lsp = lsp_fits Rate1 lsp long within;
-  plag = zeros_fit Plag 4;
-  pgain = zeros_fit Pgain 4;
-  cbindex = zeros_fit Cbindex 8;
-  cbgain = zeros_fit Cbgain 8;
-  cbseed = zeros_fit Cbseed 1;
+  plag = zeros_fit Rate1 Plag 4;
+  pgain = zeros_fit Rate1 Pgain 4;
+  cbindex = zeros_fit Rate1 Cbindex 8;
+  cbgain = zeros_fit Rate1 Cbgain 8;
+  cbseed = zeros_fit Rate1 Cbseed 1;
 }
 
 abbrev silent_figure : Option CodebookFigure

@@ -17,9 +17,9 @@ use Rattle.std.proofs.lemmas.Bool.{cond-true}
 use Rattle.std.proofs.lemmas.Bool.Decides.{nat_tests}
 use Rattle.packet.specs.declared.codes.CodeNumbers.{CodeNumbers}
 use Rattle.packet.specs.Codes.{Within}
-use Rattle.law.specs.Ends.{Sender}
-use Rattle.law.specs.Readings.{Reading, Reads, event_read, packet_read}
-use Rattle.law.specs.Links.{Blanks, Line, Link}
+use Rattle.rules.specs.Ends.{Sender}
+use Rattle.rules.specs.Readings.{Reading, Reads, event_read, packet_read}
+use Rattle.rules.specs.Links.{Blanks, Line, Link}
 use Rattle.law.specs.Runs.{Call, Send, Blank, Disturb, Take, RestartSender, RestartReceiver, Step, LinkEnd, the_sender, the_receiver, events_of_role}
 
 none_some : {A : Type 0} {x : A} → Some x ≡ None → ⊥
@@ -102,8 +102,8 @@ receiver_moves s t (Send n p r) h = record { moved = ap (λ l. l.receiver.memori
 receiver_moves s t (Blank r) h = record { moved = ap (λ l. l.receiver.memories) h.1; lawful = tt }
 receiver_moves s t (Disturb n c bytes r) h = record { moved = ap (λ l. l.receiver.memories) h.1; lawful = tt }
 receiver_moves s t (Take (Some x)) h = record {
-  moved = ap (λ r. r.memories) h.0.receiver;
-  lawful = lawful_reading x.arrival.category x.arrival.bytes x.letter x.reading h.0.read;
+  moved = ap (λ r. r.memories) h.0.received.receiver;
+  lawful = lawful_reading x.arrival.category x.arrival.bytes x.letter x.reading h.0.received.read;
 }
 receiver_moves s t (Take None) h = record { moved = ap (λ r. r.memories) h.0.1; lawful = tt }
 receiver_moves s t RestartSender h = record { moved = ap (λ l. l.receiver.memories) h; lawful = tt }

@@ -4,7 +4,7 @@ use Rattle.lsp.specs.Histories.{Event, Lawful, after, packet, erasure, blank, re
 use Rattle.lsp.specs.States.{InRange, fresh}
 use Rattle.lsp.proofs.Runs.{after-++, rounding, stays_in_range}
 use Rattle.lsp.proofs.Ranges.{fresh_in}
-use Rattle.law.specs.Links.{Link}
+use Rattle.rules.specs.Links.{Link}
 use Rattle.law.specs.Runs.{Call, Frame, CallMade, Role, frame, restarts, nothing, Run, LinkEnd, Step, events_of_role, frame_of_role, frames_at, now, events_at, restarts_at, restarts_of_role}
 use Rattle.law.specs.Law.{Rounded, numbered}
 use Rattle.law.proofs.Numbers.{append_nil, new_number, number_in, number_push, old_number, push_length}

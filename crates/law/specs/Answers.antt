@@ -1,26 +1,40 @@
 -- Every call has an answer on every input, and only one.
-use Rattle.std.specs.Prelude.{◌≡◌, ℕ, ◌≤◌, true, is_some, List, [], ◌∷◌, ◌++◌, length, map, reverse, Ok, Some, Option, Result}
+use Rattle.std.specs.Prelude.{◌≡◌, ℕ, true, is_some, List, ◌++◌, map, reverse, Ok, Some, Option, Result}
 use Rattle.service.specs.declared.categories.Category.{Category}
 use Rattle.service.specs.declared.readings.Letter.{Letter}
+use Rattle.service.specs.declared.refusals.Fault.{Fault}
 use Rattle.service.specs.declared.refusals.Refusal.{Refusal}
 use Rattle.service.specs.Letters.{is_read}
-use Rattle.law.specs.Arrivals.{Arrival, are_bytes}
-use Rattle.law.specs.Readings.{Reading, Reads}
-use Rattle.law.specs.Ends.{Receiver, Taken, Takes}
-use Rattle.law.specs.Sending.{AreComplete, Parameters}
-use Rattle.law.specs.Links.{Link, link_after_take, to_come}
-use Rattle.law.specs.Rows.{PageRows, Row, RunAnswer, RunState, RunsTakes, StartsPage, TakesAll}
-use Rattle.law.specs.Runs.{Call, CallMade, Send, Blank, Disturb, Take, RestartSender, RestartReceiver, Run, Step, now, with_receiver}
+use Rattle.service.specs.Refusals.{Answer}
+use Rattle.rules.specs.Arrivals.{Arrival, MakesArrival, are_bytes}
+use Rattle.rules.specs.Readings.{Reading, Reads}
+use Rattle.rules.specs.Ends.{Receiver, Sender, Taken, Takes}
+use Rattle.rules.specs.Sending.{AreComplete, Parameters}
+use Rattle.rules.specs.Links.{Line, Link, SendAnswers, link_after_take, to_come}
+use Rattle.rules.specs.Pages.{PageText}
+use Rattle.rules.specs.Rows.{PageRows, Row, RunAnswer, RunState, RunsTakes, StartsPage, TakesAll}
+use Rattle.law.specs.Runs.{Call, CallMade, Send, Blank, Disturb, Take, RestartSender, RestartReceiver, Run, Step, now}
 
--- ---- readings
+-- ---- arrivals
+
+-- the number of a category and bytes make one arrival, or have one fault
+pub record OneArrivalOrFault : Type 0 where
+  pub some :
+      (place c : ℕ) (bytes : List ℕ) → are_bytes bytes ≡ true
+      → (r : Result Arrival Fault) × MakesArrival place c bytes r
+  pub only :
+      (place c : ℕ) (bytes : List ℕ) (r r' : Result Arrival Fault) → MakesArrival place c bytes r
+      → MakesArrival place c bytes r' → r ≡ r'
 
 -- every arrival is read in one way, whatever its bytes; and something is read exactly if its letter says so
 pub record OneReadingOfEachArrival : Type 0 where
   pub some : (category : Category) (bytes : List ℕ) → (l : Letter) × (x : Option Reading) × Reads category bytes l x
   pub only :
-      (category : Category) (bytes : List ℕ) (l l' : Letter) (x x' : Option Reading) → Reads category bytes l x → Reads category bytes l' x'
-      → (l ≡ l') × (x ≡ x')
-  pub letter : (category : Category) (bytes : List ℕ) (l : Letter) (x : Option Reading) → Reads category bytes l x → is_some x ≡ is_read l
+      (category : Category) (bytes : List ℕ) (l l' : Letter) (x x' : Option Reading) → Reads category bytes l x
+      → Reads category bytes l' x' → (l ≡ l') × (x ≡ x')
+  pub letter :
+      (category : Category) (bytes : List ℕ) (l : Letter) (x : Option Reading) → Reads category bytes l x
+      → is_some x ≡ is_read l
 
 -- ---- calls
 
@@ -42,7 +56,8 @@ command_of (Take x) = take
 command_of RestartSender = restart_sender
 command_of RestartReceiver = restart_receiver
 
--- a send is given ten frequencies, four pitch pairs and eight codebook parameters, and a disturb bytes; all else may be anything
+-- a send is given ten frequencies, four pitch pairs and eight codebook parameters, and a disturb bytes; all else may be
+-- anything
 abbrev pub IsComplete : Command → Type 0
 IsComplete (send n p) = AreComplete p
 IsComplete blank = Unit {0}
@@ -58,27 +73,21 @@ pub record Answered (s : Link) (command : Command) : Type 0 where
   pub given : command_of call ≡ command
   pub step : Step s call link
 
--- on every link, whatever its state, each command has an answer, and it has only one, which leaves only one link
+-- on every link, whatever its state, each complete command has an answer; and it has only one, which leaves only one
+-- link
 pub record OneAnswerToEachCall : Type 0 where
   pub some : (s : Link) (command : Command) → IsComplete command → Answered s command
-  pub only : (s t t' : Link) (c c' : Call) → command_of c ≡ command_of c' → Step s c t → Step s c' t' → (c ≡ c') × (t ≡ t')
+  pub only :
+      (s t t' : Link) (c c' : Call) → command_of c ≡ command_of c' → Step s c t → Step s c' t' → (c ≡ c') × (t ≡ t')
 
--- ---- sessions
-
--- the history is a run of these commands from s, the first first
-pub record IsSession (s : Link) (commands : List Command) (h : List CallMade) : Type 0 where
-  pub run : Run s h
-  pub given : map (λ m. command_of m.call) (reverse h) ≡ commands
-
--- each command of a list is complete
-abbrev pub AreAllComplete : List Command → Type 0
-AreAllComplete [] = Unit {0}
-AreAllComplete (command ∷ commands) = IsComplete command × AreAllComplete commands
-
--- from every link each list of commands has one run
-pub record OneSessionOfCommands : Type 0 where
-  pub some : (s : Link) (commands : List Command) → AreAllComplete commands → (h : List CallMade) × IsSession s commands h
-  pub only : (s : Link) (commands : List Command) (h h' : List CallMade) → IsSession s commands h → IsSession s commands h' → h ≡ h'
+-- and so it is of what a send answers its caller, with the sender and the line after it
+pub record OneSendAnswer : Type 0 where
+  pub some :
+      (e : Sender) (line : Line) (n : ℕ) (p : Parameters) → AreComplete p
+      → (r : Result ℕ Refusal) × (e' : Sender) × (line' : Line) × SendAnswers e line n p r e' line'
+  pub only :
+      (e d d' : Sender) (line l l' : Line) (n : ℕ) (p : Parameters) (r r' : Result ℕ Refusal)
+      → SendAnswers e line n p r d l → SendAnswers e line n p r' d' l' → (r ≡ r') × (d ≡ d') × (l ≡ l')
 
 -- ---- takes
 
@@ -98,30 +107,39 @@ pub record TakesAreCalls (s : Link) (xs : List Taken) (e : Receiver) (rest : Lis
 -- takes one after another are a run of take calls
 abbrev pub ChainOfTakesIsARun : Type 0
 ChainOfTakesIsARun =
-    (s : Link) (xs : List Taken) (e : Receiver) (rest : List Arrival) → TakesAll s.receiver (to_come s) xs e rest → TakesAreCalls s xs e rest
+    (s : Link) (xs : List Taken) (e : Receiver) (rest : List Arrival) → TakesAll s.receiver (to_come s) xs e rest
+    → TakesAreCalls s xs e rest
 
 -- takes and then further takes are takes of both
 abbrev pub ChainsOfTakesJoin : Type 0
 ChainsOfTakesJoin =
-    (e d c : Receiver) (supply list rest : List Arrival) (xs ys : List Taken) → TakesAll e supply xs d list → TakesAll d list ys c rest
-    → TakesAll e supply (xs ++ ys) c rest
+    (e d c : Receiver) (supply list rest : List Arrival) (xs ys : List Taken) → TakesAll e supply xs d list
+    → TakesAll d list ys c rest → TakesAll e supply (xs ++ ys) c rest
 
 -- ---- runs of takes, and pages
 
--- a run that begins with a queue no longer than its places has an answer, and only one, which leaves only one state
+-- a run of takes has an answer, whatever its queue holds, and only one, which leaves only one state
 pub record OneAnswerToEachRunOfTakes : Type 0 where
-  pub some : (wanted places : ℕ) (s : RunState) → length s.rows ≤ places → (a : RunAnswer) × (t : RunState) × RunsTakes wanted places s a t
-  pub only : (wanted places : ℕ) (s t t' : RunState) (a a' : RunAnswer) → RunsTakes wanted places s a t → RunsTakes wanted places s a' t' → (a ≡ a') × (t ≡ t')
+  pub some :
+      (wanted places : ℕ) (s : RunState) → (a : RunAnswer) × (t : RunState) × RunsTakes wanted places s a t
+  pub only :
+      (wanted places : ℕ) (s t t' : RunState) (a a' : RunAnswer) → RunsTakes wanted places s a t
+      → RunsTakes wanted places s a' t' → (a ≡ a') × (t ≡ t')
 
--- The page call has one answer, and leaves one receiver; an accepted one is a restart of the receiver of any link that has it. And
--- each supply has the rows of one page.
+-- The page call has one answer, and leaves one receiver; an accepted one is a restart of the receiver of any link that
+-- has it. Each supply has the rows of one page, and each reel, lawful or not, the text of one.
 pub record OnePage : Type 0 where
-  pub start : (reel : Option (List Arrival)) (e : Receiver) → (r : Result (List Arrival) Refusal) × (d : Receiver) × StartsPage reel e r d
+  pub start :
+      (reel : Result (List Arrival) Answer) (e : Receiver)
+      → (r : Result (List Arrival) Refusal) × (d : Receiver) × StartsPage reel e r d
   pub only_start :
-      (reel : Option (List Arrival)) (e d d' : Receiver) (r r' : Result (List Arrival) Refusal) → StartsPage reel e r d → StartsPage reel e r' d'
-      → (r ≡ r') × (d ≡ d')
+      (reel : Result (List Arrival) Answer) (e d d' : Receiver) (r r' : Result (List Arrival) Refusal)
+      → StartsPage reel e r d → StartsPage reel e r' d' → (r ≡ r') × (d ≡ d')
   pub restarts :
-      (reel : Option (List Arrival)) (s : Link) (supply : List Arrival) (e : Receiver) → StartsPage reel s.receiver (Ok supply) e
-      → Step s RestartReceiver (with_receiver e s)
+      (reel : Result (List Arrival) Answer) (s : Link) (supply : List Arrival) (e : Receiver)
+      → StartsPage reel s.receiver (Ok supply) e → Step s RestartReceiver (record s { receiver = e })
   pub some : (supply : List Arrival) → (rows : List Row) × PageRows supply rows
-  pub only : (supply : List Arrival) (rows rows' : List Row) → PageRows supply rows → PageRows supply rows' → rows ≡ rows'
+  pub only :
+      (supply : List Arrival) (rows rows' : List Row) → PageRows supply rows → PageRows supply rows' → rows ≡ rows'
+  pub text : (bytes : List ℕ) → (text : List ℕ) × PageText bytes text
+  pub only_text : (bytes text text' : List ℕ) → PageText bytes text → PageText bytes text' → text ≡ text'

@@ -1,10 +1,12 @@
 -- What every run from a new link keeps, and what a link's own line delivers.
 use Rattle.std.specs.Prelude.{◌≡◌, ◌+◌, ◌<◌, ◌≤◌, true, List, [], ◌∷◌, ◌++◌, length, map, Ok, Err, Some, None, Option}
+use Rattle.service.specs.Queues.{max_places}
 use Rattle.lsp.specs.States.{InRange}
-use Rattle.law.specs.Arrivals.{Arrival, are_lawful, blank_arrival}
-use Rattle.law.specs.Sending.{Sent, arrival_sent}
-use Rattle.law.specs.Links.{Link, most_places, this_line, to_come}
-use Rattle.law.specs.Runs.{Call, CallMade, Send, Blank, Disturb, Take, RestartSender, RestartReceiver, New, Run, arrivals_taken, frames_sent, now}
+use Rattle.rules.specs.Arrivals.{Arrival, are_lawful, blank_arrival}
+use Rattle.rules.specs.Sending.{Sent, arrival_sent}
+use Rattle.rules.specs.Links.{Link, this_line, to_come}
+use Rattle.law.specs.Runs.{Call, CallMade, Send, Blank, Disturb, Take, RestartSender, RestartReceiver, New, Run}
+use Rattle.law.specs.Runs.{arrivals_taken, frames_sent, now}
 
 -- what is so of every link that a run from a new one leads to
 pub record Kept (s : Link) : Type 0 where
@@ -13,7 +15,7 @@ pub record Kept (s : Link) : Type 0 where
   pub receiver : InRange s.receiver.memories × (length s.receiver.memories ≡ 10)
   pub seed : s.sender.seed < 65536
   -- the line has at most 256 places, no more arrivals wait than it has, and these and those to come are lawful
-  pub places : s.line.places ≤ most_places
+  pub places : s.line.places ≤ max_places
   pub fits : length s.line.waiting ≤ s.line.places
   pub waiting : are_lawful s.line.waiting ≡ true
   pub supply : are_lawful (to_come s) ≡ true
@@ -44,15 +46,17 @@ IsUndisturbed (m ∷ h) = DisturbsNothing m.call × IsUndisturbed h
 
 -- a link takes from its own line, on which nothing waited at first
 pub record StartsEmpty (s : Link) : Type 0 where
-  pub supply : s.supply ≡ this_line
+  pub source : s.source ≡ this_line
   pub waiting : s.line.waiting ≡ []
 
--- what was taken and what waits are as many arrivals as frames were sent; if nothing was disturbed, they are those that were put
--- on the line, in the order in which they were sent
+-- what was taken and what waits are as many arrivals as frames were sent; if nothing was disturbed, they are those that
+-- were put on the line, in the order in which they were sent
 pub record LineDelivers (s : Link) (h : List CallMade) : Type 0 where
   pub many : length (frames_sent h) ≡ length (arrivals_taken h) + length (now s h).line.waiting
   pub undisturbed :
-      IsUndisturbed h → map (λ f. arrival_of_frame f.what) (frames_sent h) ≡ map (λ g. g.what.arrival) (arrivals_taken h) ++ (now s h).line.waiting
+      IsUndisturbed h
+      → map (λ f. arrival_of_frame f.what) (frames_sent h) ≡ map (λ g. g.what.arrival) (arrivals_taken h)
+      ++ (now s h).line.waiting
 
 -- so it is after every run
 abbrev pub OwnLineDelivers : Type 0

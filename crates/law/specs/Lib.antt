@@ -1,14 +1,9 @@
-pub mod GuardedBits
-pub mod Words
-pub mod Arrivals
-pub mod Readings
-pub mod Ends
-pub mod Sending
-pub mod Links
-pub mod Rows
+pub mod Changes
 pub mod Runs
 pub mod Law
 pub mod Answers
+pub mod Sessions
 pub mod Keeping
 pub mod Marks
+pub mod Listing
 pub mod Example

@@ -10,12 +10,12 @@ use Rattle.lsp.specs.Quantizers.{code_of, value_of}
 use Rattle.cyclic.specs.Words.{sent}
 use Rattle.packet.specs.declared.codes.CodeNumbers.{CodeNumbers}
 use Rattle.packet.specs.Calls.{packet}
+use Rattle.packet.specs.Changes.{with_bit_changed}
 use Rattle.packet.specs.CheckBits.{message_of}
 use Rattle.packet.specs.Codes.{in_order}
 use Rattle.figures.specs.Codebook.{figure_of_codes, sends_index_and_sign}
-use Rattle.law.specs.GuardedBits.{with_bit_changed}
-use Rattle.law.specs.Readings.{Reading, Reads}
-use Rattle.law.specs.Sending.{cbseed_of, drawn}
+use Rattle.rules.specs.Readings.{Reading, Reads}
+use Rattle.rules.specs.Sending.{cbseed_of, drawn}
 
 -- the codes of a frame with all codes 0, but for CBGAIN 8
 abbrev pub only_cbgain8 : ℕ → CodeNumbers
@@ -53,7 +53,9 @@ pub record WorkedExamples : Type 0 where
   -- with only CBGAIN8[1] set, PCB[10], [9], [7], [6], [4], [1] and [0] are 1 before inversion
   pub check_bits : sent (message_of (in_order (only_cbgain8 0b010))) % 2 ^ 11 ≡ 0b110_1101_0011
   -- at each rate with an index, CBINDEX 0 with CBGAIN 4 is index 39, and CBINDEX 89 with CBGAIN 7 is index 0
-  pub indexes : (rate : Rate) → sends_index_and_sign rate ≡ true → ((figure_of_codes rate 0 4).index ≡ Some 39) × ((figure_of_codes rate 89 7).index ≡ Some 0)
+  pub indexes :
+      (rate : Rate) → sends_index_and_sign rate ≡ true
+      → ((figure_of_codes rate 0 4).index ≡ Some 39) × ((figure_of_codes rate 89 7).index ≡ Some 0)
   -- the packet of all codes 0 as suspect: bit 87 changed gives S, bit 0 changed gives P, both changed give D
   pub suspect :
       SuspectGets S (with_bit_changed 87 packet_of_zeros) × SuspectGets P (with_bit_changed 0 packet_of_zeros)

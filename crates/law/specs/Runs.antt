@@ -1,12 +1,14 @@
 -- Runs of calls on a link, and what is read off one.
-use Rattle.std.specs.Prelude.{◌≡◌, ℕ, ◌+◌, ◌≤◌, true, List, [], ◌∷◌, ◌++◌, length, ℤ, Ok, Err, Some, None, Option, Result}
+use Rattle.std.specs.Prelude.{◌≡◌, ℕ, ◌+◌, ◌≤◌, true, List, [], ◌∷◌, ◌++◌, length, ℤ, Ok, Err, Some, None, Option}
+use Rattle.std.specs.Prelude.{Result}
 use Rattle.service.specs.declared.refusals.Refusal.{Refusal}
+use Rattle.service.specs.Queues.{max_places}
 use Rattle.lsp.specs.Histories.{Event, blank, packet, restart}
-use Rattle.law.specs.Arrivals.{are_lawful}
-use Rattle.law.specs.Readings.{event_read}
-use Rattle.law.specs.Ends.{Receiver, Sender, Taken, new_receiver, new_sender}
-use Rattle.law.specs.Sending.{Parameters, Sent}
-use Rattle.law.specs.Links.{Blanks, Disturbs, Line, Link, Sends, TakesFromSupply, most_places, to_come}
+use Rattle.rules.specs.Arrivals.{are_lawful}
+use Rattle.rules.specs.Readings.{event_read}
+use Rattle.rules.specs.Ends.{Taken, new_receiver, new_sender}
+use Rattle.rules.specs.Sending.{Parameters, Sent}
+use Rattle.rules.specs.Links.{Blanks, Disturbs, Link, Sends, TakesFromSource, to_come}
 
 -- a call, with what it was given and what it answered
 pub data Call : Type 0 where
@@ -17,29 +19,22 @@ pub data Call : Type 0 where
   RestartSender : Call
   RestartReceiver : Call
 
--- the link with another sender and another line
-abbrev pub with_sender_and_line : Sender → Line → Link → Link
-with_sender_and_line e line s = record { sender = e; line = line; receiver = s.receiver; supply = s.supply }
-
--- the link with another receiver
-abbrev pub with_receiver : Receiver → Link → Link
-with_receiver e s = record { sender = s.sender; line = s.line; receiver = e; supply = s.supply }
-
 -- a step: one call takes a link from s to t, and alters nothing of it but the parts that its rule names
 abbrev pub Step : Link → Call → Link → Type 0
-Step s (Send n p r) t = Sends s.sender s.line n p r t.sender t.line × (t ≡ with_sender_and_line t.sender t.line s)
-Step s (Blank r) t = Blanks s.sender s.line r t.sender t.line × (t ≡ with_sender_and_line t.sender t.line s)
-Step s (Disturb n c bytes r) t = Disturbs s.line n c bytes r t.line × (t ≡ with_sender_and_line s.sender t.line s)
-Step s (Take x) t = TakesFromSupply s x t
-Step s RestartSender t = t ≡ with_sender_and_line new_sender s.line s
-Step s RestartReceiver t = t ≡ with_receiver new_receiver s
+Step s (Send n p r) t =
+    Sends s.sender s.line n p r t.sender t.line × (t ≡ record s { sender = t.sender; line = t.line })
+Step s (Blank r) t = Blanks s.sender s.line r t.sender t.line × (t ≡ record s { sender = t.sender; line = t.line })
+Step s (Disturb n c bytes r) t = Disturbs s.line n c bytes r t.line × (t ≡ record s { line = t.line })
+Step s (Take x) t = TakesFromSource s x t
+Step s RestartSender t = t ≡ record s { sender = new_sender }
+Step s RestartReceiver t = t ≡ record s { receiver = new_receiver }
 
--- a link is new if both ends are, whatever lawful arrivals wait on its line and are to come; the line has at most 256 places, and
--- no more arrivals wait than it has
+-- a link is new if both ends are, whatever lawful arrivals wait on its line and are to come; the line has at most 256
+-- places, and no more arrivals wait than it has
 pub record New (s : Link) : Type 0 where
   pub sender : s.sender ≡ new_sender
   pub receiver : s.receiver ≡ new_receiver
-  pub places : s.line.places ≤ most_places
+  pub places : s.line.places ≤ max_places
   pub fits : length s.line.waiting ≤ s.line.places
   pub waiting : are_lawful s.line.waiting ≡ true
   pub supply : are_lawful (to_come s) ≡ true
@@ -97,7 +92,8 @@ sent_event None = blank
 abbrev pub taken_event : Taken → Event
 taken_event x = event_read x.letter x.reading
 
--- one end of a link: which calls are its frames and restarts, what a frame is to its memories, and where a link has these
+-- one end of a link: which calls are its frames and restarts, what a frame is to its memories, and where a link has
+-- these
 pub record LinkEnd (A : Type 0) : Type 0 where
   pub role : Call → Role A
   pub event : A → Event
@@ -133,7 +129,8 @@ abbrev pub restarts_at : {A : Type 0} → LinkEnd A → List CallMade → ℕ
 restarts_at end [] = 0
 restarts_at end (m ∷ h) = restarts_of_role (end.role m.call) + restarts_at end h
 
--- a frame of an end: what it is, the end's memories right after it, and how often the end was restarted before it, its era
+-- a frame of an end: what it is, the end's memories right after it, and how often the end was restarted before it, its
+-- era
 pub record Frame (A : Type 0) : Type 0 where
   pub what : A
   pub memories : List ℤ

@@ -1,19 +1,27 @@
-//! The rules of the calls on a sender, a line, a receiver and a page, and the law over runs of such calls, as definitions in
-//! `specs/`. Each function here carries a theorem about them. It is proved of the rules, and as yet of no program.
+//! What is proved of the rules of the calls, which the crate `rules` has: runs of calls and the law over them, that each call has
+//! one answer, sessions of commands, and worked examples. Each function here carries a theorem.
 #![tactic(auto)]
 
-ghost use Rattle.law.specs.Answers.{ChainOfTakesIsARun, ChainsOfTakesJoin, EachTakeIsACall, OneAnswerToEachCall, OneAnswerToEachRunOfTakes, OnePage, OneReadingOfEachArrival, OneSessionOfCommands};
+ghost use Rattle.law.specs.Answers.{ChainOfTakesIsARun, ChainsOfTakesJoin, EachTakeIsACall, OneAnswerToEachCall, OneAnswerToEachRunOfTakes, OneArrivalOrFault, OnePage, OneReadingOfEachArrival, OneSendAnswer};
+ghost use Rattle.law.specs.Changes.{ChangesOfWords};
 ghost use Rattle.law.specs.Example.{ExampleRun};
 ghost use Rattle.law.specs.Keeping.{EveryRunKeeps, OwnLineDelivers};
-ghost use Rattle.law.specs.Law.{EveryRun, EveryRunCarries, EveryStepCarries, RunsJoin};
+ghost use Rattle.law.specs.Law.{EveryRun, EveryRunCarries, EveryRunThroughout, EveryStepCarries, RunsJoin};
+ghost use Rattle.law.specs.Listing.{WorkedListing};
 ghost use Rattle.law.specs.Marks.{WorkedExamples};
-ghost use Rattle.law.specs.Words.{ChangesOfWords};
+ghost use Rattle.law.specs.Sessions.{OneOutcomeOfASession, OneSessionOfCommands, SessionsGrow};
 
 /// Carries a theorem: every run of calls from a new link keeps the law: of the guarded bits, of the rounding, and of the
 /// agreement of the two ends.
 #[tactic(auto, using(crate::proofs::Every::every_run))]
 pub fn every_run()
     ensures { EveryRun }
+{}
+
+/// Carries a theorem: and it keeps the law after each of its calls.
+#[tactic(auto, using(crate::proofs::Every::every_run_throughout))]
+pub fn every_run_throughout()
+    ensures { EveryRunThroughout }
 {}
 
 /// Carries a theorem: a call that is a step carries on any run from a new link that led to it, and the law with it.
@@ -49,6 +57,12 @@ pub fn own_line_delivers()
     ensures { OwnLineDelivers }
 {}
 
+/// Carries a theorem: a place, the number of a category and bytes make exactly one arrival, or have exactly one fault.
+#[tactic(auto, using(crate::proofs::OneAnswer::one_arrival))]
+pub fn one_arrival()
+    ensures { OneArrivalOrFault }
+{}
+
 /// Carries a theorem: every arrival is read in exactly one way, whatever its bytes, and something is read exactly if its letter says
 /// so.
 #[tactic(auto, using(crate::proofs::OneReading::one_reading))]
@@ -62,10 +76,29 @@ pub fn one_answer()
     ensures { OneAnswerToEachCall }
 {}
 
+/// Carries a theorem: what a send answers its caller is exactly one thing, whatever its complete input, and leaves exactly one
+/// sender and line.
+#[tactic(auto, using(crate::proofs::OneSend::one_send_answer))]
+pub fn one_send_answer()
+    ensures { OneSendAnswer }
+{}
+
 /// Carries a theorem: from every link each list of complete commands has exactly one run.
 #[tactic(auto, using(crate::proofs::Sessions::one_session))]
 pub fn one_session()
     ensures { OneSessionOfCommands }
+{}
+
+/// Carries a theorem: equal links and equal commands give equal outcomes, and lead to equal links.
+#[tactic(auto, using(crate::proofs::Sessions::one_outcome))]
+pub fn one_outcome_of_a_session()
+    ensures { OneOutcomeOfASession }
+{}
+
+/// Carries a theorem: no command is a session, and a session and one command more are a session.
+#[tactic(auto, using(crate::proofs::Sessions::sessions_grow))]
+pub fn sessions_grow()
+    ensures { SessionsGrow }
 {}
 
 /// Carries a theorem: a take of the receiver from what is to come to its link is a take call on the link.
@@ -86,22 +119,21 @@ pub fn takes_join()
     ensures { ChainsOfTakesJoin }
 {}
 
-/// Carries a theorem: a run of takes that begins with a queue of rows no longer than its places has exactly one answer, and leaves
-/// exactly one receiver, supply and queue.
+/// Carries a theorem: a run of takes has exactly one answer, whatever its queue of rows holds, and leaves exactly one receiver,
+/// supply and queue.
 #[tactic(auto, using(crate::proofs::OneRun::one_run))]
 pub fn one_run_of_takes()
     ensures { OneAnswerToEachRunOfTakes }
 {}
 
-/// Carries a theorem: the page call has exactly one answer, an accepted one restarts the receiver, and each supply has the rows of
-/// exactly one page.
+/// Carries a theorem: the page call has exactly one answer, an accepted one restarts the receiver, each supply has the rows of
+/// exactly one page, and each reel, lawful or not, the text of exactly one.
 #[tactic(auto, using(crate::proofs::OneRun::one_page))]
 pub fn one_page()
     ensures { OnePage }
 {}
 
-/// Carries a theorem: as many guarded bits differ between two packets as between their words, with PCB[0] and without it, and to
-/// correct a bit of a packet is to correct its word.
+/// Carries a theorem: as many guarded bits differ between two packets as between their words, with PCB[0] and without it.
 #[tactic(auto, using(crate::proofs::Changes::changes_of_words))]
 pub fn changes_of_words()
     ensures { ChangesOfWords }
@@ -111,6 +143,12 @@ pub fn changes_of_words()
 #[tactic(auto, using(crate::proofs::Marks::worked_examples))]
 pub fn worked_examples()
     ensures { WorkedExamples }
+{}
+
+/// Carries a theorem: the page of a reel of two packets, byte by byte.
+#[tactic(auto, using(crate::proofs::Listing::worked_listing))]
+pub fn worked_listing()
+    ensures { WorkedListing }
 {}
 
 /// Carries a theorem: there is a run in which the premises of the law hold. The ends' memories are more than ten grains apart; 256

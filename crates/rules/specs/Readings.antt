@@ -1,27 +1,30 @@
 -- How an arrival is read (IS-96, A.1.4.8.6), and what it does to the receiver.
 use Rattle.std.specs.Prelude.{◌≡◌, ◌≢◌, ◌⊎◌, ℕ, ◌-◌, ◌<◌, min, List, Some, None, Option, MatchOption, replicate}
 use Rattle.service.specs.declared.rates.Rate.{Rate}
-use Rattle.service.specs.declared.rates.Rate.TheVariants.{Full as Rate1, Half as Rate1/2, Quarter as Rate1/4, Eighth as Rate1/8}
+use Rattle.service.specs.declared.rates.Rate.TheVariants.{Full as Rate1, Half as Rate1/2, Quarter as Rate1/4}
+use Rattle.service.specs.declared.rates.Rate.TheVariants.{Eighth as Rate1/8}
 use Rattle.service.specs.declared.categories.Category.{Category}
 use Rattle.service.specs.declared.categories.Category.TheVariants.{Blank, Eighth, Quarter, Half, Full, Suspect, Erasure}
 use Rattle.service.specs.declared.readings.Letter.{Letter}
 use Rattle.service.specs.declared.readings.Letter.TheVariants.{C, P, S, D, B, E}
+use Rattle.service.specs.Letters.{Meaning, letter_is}
+use Rattle.service.specs.Letters.Meaning.{read, blank as is_blank, erased}
 use Rattle.service.specs.Rates.{rate_is}
 use Rattle.lsp.specs.Histories.{Event, packet, erasure, blank}
 use Rattle.cyclic.specs.Words.{syndrome, Corrects}
 use Rattle.packet.specs.declared.codes.CodeNumbers.{CodeNumbers}
 use Rattle.packet.specs.Bits.{bit_at}
 use Rattle.packet.specs.Calls.{Holds}
+use Rattle.packet.specs.Changes.{corrected_packet}
 use Rattle.packet.specs.CheckBits.{word_of}
 use Rattle.figures.specs.declared.codebook.CodebookCodes.{CodebookCodes}
 use Rattle.figures.specs.declared.codebook.CodebookFigure.{CodebookFigure}
 use Rattle.figures.specs.declared.pitch.PitchCodes.{PitchCodes}
 use Rattle.figures.specs.Pitch.{DecodesPitches, no_pitch, pair_at}
 use Rattle.figures.specs.Codebook.{DecodesCodebooks}
-use Rattle.law.specs.GuardedBits.{corrected_packet}
 
--- what was read of a packet: its rate, its codes, and the pitch pairs and codebook figures that they stand for, in lists of
--- four and of eight subframes, of which the rate may have fewer
+-- what was read of a packet: its rate, its codes, and the pitch pairs and codebook figures that they stand for, in
+-- lists of four and of eight subframes, of which the rate may have fewer
 pub record Reading : Type 0 where
   pub rate : Rate
   pub codes : CodeNumbers
@@ -49,7 +52,8 @@ pub record ReadsCodes (q : Rate) (bytes : List ℕ) (r : Reading) : Type 0 where
 -- read with this letter, and with the pitch of the codes
 abbrev pub IsRead : Letter → Rate → List ℕ → Letter → Option Reading → Type 0
 IsRead letter rate bytes l x =
-    (l ≡ letter) × MatchOption x ⊥ (λ r. ReadsCodes rate bytes r × DecodesPitches rate (pitch_codes_in r.codes) r.pitches)
+    (l ≡ letter)
+    × MatchOption x ⊥ (λ r. ReadsCodes rate bytes r × DecodesPitches rate (pitch_codes_in r.codes) r.pitches)
 
 -- read at Rate 1 with this letter, and with pitch off
 abbrev pub IsReadWithPitchOff : Letter → List ℕ → Letter → Option Reading → Type 0
@@ -64,19 +68,32 @@ IsNotRead letter l x = (l ≡ letter) × (x ≡ None)
 abbrev pub AllOnes : Rate → List ℕ → Type 0
 AllOnes rate bytes = (k : ℕ) → k < (rate_is rate).bits → bit_at bytes k ≡ 1
 
--- The letter l of an arrival of each category, and what is read of it, x. A suspect packet is read as it came if its syndrome is
--- 0, whatever PCB[0] is, or with one bit corrected if the parity is odd and the syndrome points at that bit.
+-- A suspect packet is read as it came if its syndrome is 0, whatever PCB[0] is;
+abbrev pub ReadsSuspectAsItCame : List ℕ → Letter → Option Reading → Type 0
+ReadsSuspectAsItCame bytes l x = (syndrome (word_of bytes) ≡ 0) × IsReadWithPitchOff P bytes l x
+
+-- it is read with one bit corrected if the parity is odd and the syndrome points at that bit;
+abbrev pub ReadsSuspectCorrected : List ℕ → Letter → Option Reading → Type 0
+ReadsSuspectCorrected bytes l x =
+    (p : ℕ) × Corrects (word_of bytes) p × IsReadWithPitchOff S (corrected_packet p bytes) l x
+
+-- and any other is not read.
+abbrev pub ReadsSuspectNot : List ℕ → Letter → Option Reading → Type 0
+ReadsSuspectNot bytes l x =
+    (syndrome (word_of bytes) ≢ 0) × ((p : ℕ) → Corrects (word_of bytes) p → ⊥) × IsNotRead D l x
+
+-- the letter l of an arrival of each category, and what is read of it, x
 abbrev pub Reads : Category → List ℕ → Letter → Option Reading → Type 0
 Reads Blank bytes l x = IsNotRead B l x
-Reads Eighth bytes l x = (AllOnes Rate1/8 bytes × IsNotRead D l x) ⊎ ((AllOnes Rate1/8 bytes → ⊥) × IsRead C Rate1/8 bytes l x)
+Reads Eighth bytes l x =
+    (AllOnes Rate1/8 bytes × IsNotRead D l x) ⊎ ((AllOnes Rate1/8 bytes → ⊥) × IsRead C Rate1/8 bytes l x)
 Reads Quarter bytes l x = IsRead C Rate1/4 bytes l x
 Reads Half bytes l x = IsRead C Rate1/2 bytes l x
 Reads Full bytes l x =
-    ((syndrome (word_of bytes) ≡ 0) × IsRead C Rate1 bytes l x) ⊎ ((syndrome (word_of bytes) ≢ 0) × IsNotRead D l x)
+    ((syndrome (word_of bytes) ≡ 0) × IsRead C Rate1 bytes l x)
+    ⊎ ((syndrome (word_of bytes) ≢ 0) × IsNotRead D l x)
 Reads Suspect bytes l x =
-    ((syndrome (word_of bytes) ≡ 0) × IsReadWithPitchOff P bytes l x)
-    ⊎ (((p : ℕ) × Corrects (word_of bytes) p × IsReadWithPitchOff S (corrected_packet p bytes) l x)
-    ⊎ ((syndrome (word_of bytes) ≢ 0) × ((p : ℕ) → Corrects (word_of bytes) p → ⊥) × IsNotRead D l x))
+    ReadsSuspectAsItCame bytes l x ⊎ (ReadsSuspectCorrected bytes l x ⊎ ReadsSuspectNot bytes l x)
 Reads Erasure bytes l x = IsNotRead E l x
 
 -- what a packet that was read is to the memories of an end; where its letter says that it was read, there is a reading
@@ -84,14 +101,14 @@ abbrev pub packet_read : Option Reading → Event
 packet_read (Some r) = packet r.rate r.codes.lsp
 packet_read None = erasure
 
--- what an arrival is to the receiver's memories, by its letter: C, P and S are read, B is a blank, any other is an erasure
+-- what an arrival is to the receiver's memories, by what its letter means
+abbrev pub event_of_meaning : Meaning → Option Reading → Event
+event_of_meaning read x = packet_read x
+event_of_meaning is_blank x = blank
+event_of_meaning erased x = erasure
+
 abbrev pub event_read : Letter → Option Reading → Event
-event_read C x = packet_read x
-event_read P x = packet_read x
-event_read S x = packet_read x
-event_read D x = erasure
-event_read B x = blank
-event_read E x = erasure
+event_read l x = event_of_meaning (letter_is l).meaning x
 
 -- the pair of the last pitch subframe; Rate 1/8 has none, and its pitch is off
 abbrev pub last_pitch : Rate → List (ℕ × ℕ) → ℕ × ℕ
@@ -109,11 +126,11 @@ abbrev pub pitch_read : Option Reading → ℕ × ℕ
 pitch_read (Some r) = last_pitch r.rate r.pitches
 pitch_read None = no_pitch
 
--- the receiver's pitch pair after an arrival, by its letter
+-- the receiver's pitch pair after an arrival, by what its letter means
+abbrev pub pitch_of_meaning : Meaning → Option Reading → ℕ × ℕ → ℕ × ℕ
+pitch_of_meaning read x pair = pitch_read x
+pitch_of_meaning is_blank x pair = lowered pair
+pitch_of_meaning erased x pair = no_pitch
+
 abbrev pub pitch_after : Letter → Option Reading → ℕ × ℕ → ℕ × ℕ
-pitch_after C x pair = pitch_read x
-pitch_after P x pair = pitch_read x
-pitch_after S x pair = pitch_read x
-pitch_after D x pair = no_pitch
-pitch_after B x pair = lowered pair
-pitch_after E x pair = no_pitch
+pitch_after l x pair = pitch_of_meaning (letter_is l).meaning x pair

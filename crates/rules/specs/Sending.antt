@@ -1,30 +1,28 @@
 -- How a sender codes a frame, and when it refuses one.
-use Rattle.std.specs.Prelude.{◌≡◌, ℕ, zero, suc, ◌+◌, ◌*◌, ◌%◌, ◌<◌, ◌≤◌, Bool, true, ◌&&◌, List, [], ◌∷◌, length, Ok, Err, Result, ℤ, pos, ◌-ℤ◌, int_le, slice_index_or}
+use Rattle.std.specs.Prelude.{◌≡◌, ℕ, zero, suc, ◌+◌, ◌*◌, ◌%◌, ◌<◌, ◌≤◌, true, List, [], ◌∷◌, length, Ok, Err, Result}
+use Rattle.std.specs.Prelude.{ℤ}
 use Rattle.service.specs.declared.rates.Rate.{Rate}
 use Rattle.service.specs.declared.rates.Rate.TheVariants.{Full, Half, Quarter, Eighth}
 use Rattle.service.specs.declared.refusals.Refusal.{Refusal}
-use Rattle.service.specs.declared.refusals.Refusal.TheVariants.{Frequency, Pitch, Codebook, Draws as AllDraws}
+use Rattle.service.specs.declared.refusals.Refusal.TheVariants.{Frequency, Pitch, Codebook, Draws}
 use Rattle.service.specs.Categories.{category_of}
 use Rattle.service.specs.Rates.{rate_is}
-use Rattle.service.specs.Refusals.{Answer, refusal_is}
-use Rattle.lsp.specs.Decay.{decay}
+use Rattle.service.specs.Refusals.{refusal_is}
 use Rattle.lsp.specs.Histories.{after, packet as packet_event}
+use Rattle.lsp.specs.Offsets.{FrequenciesAllowed, RefusesFrequencies, offsets}
 use Rattle.lsp.specs.Quantizers.{quantized}
-use Rattle.lsp.specs.States.{bias}
-use Rattle.lsp.specs.Ten.{ten}
 use Rattle.packet.specs.declared.codes.CodeNumbers.{CodeNumbers}
 use Rattle.packet.specs.Bits.{bit}
 use Rattle.packet.specs.Calls.{packet}
 use Rattle.figures.specs.declared.codebook.CodebookParameter.{CodebookParameter}
 use Rattle.figures.specs.Codebook.{EncodesCodebooks, RefusesCodebooks, codebook_allowed, parameter_at}
 use Rattle.figures.specs.Pitch.{EncodesPitches, RefusesPitches, pair_at, pitch_allowed}
-use Rattle.service.specs.FirstToFail.{RefusedAtFirst}
-use Rattle.law.specs.Arrivals.{Arrival}
-use Rattle.law.specs.Readings.{AllOnes, codebook_codes_in, last_pitch, pitch_codes_in}
-use Rattle.law.specs.Ends.{Sender}
+use Rattle.rules.specs.Arrivals.{Arrival}
+use Rattle.rules.specs.Readings.{AllOnes, codebook_codes_in, last_pitch, pitch_codes_in}
+use Rattle.rules.specs.Ends.{Sender}
 
--- the parameters of a frame: LSP frequencies in grains, pitch pairs and codebook parameters. Those past the subframes of the
--- rate are not looked at.
+-- the parameters of a frame: LSP frequencies in grains, pitch pairs and codebook parameters. Those past the subframes
+-- of the rate are not looked at.
 pub record Parameters : Type 0 where
   pub frequencies : List ℤ
   pub pitches : List (ℕ × ℕ)
@@ -36,27 +34,7 @@ pub record AreComplete (p : Parameters) : Type 0 where
   pub pitches : length p.pitches ≡ 4
   pub codebooks : length p.codebooks ≡ 8
 
--- ---- which parameters are allowed
-
--- the frequency of the LSP at an index
-abbrev pub frequency_at : List ℤ → ℕ → ℤ
-frequency_at fs i = slice_index_or fs i (pos 0)
-
--- the highest frequency that can be sent, one half of the sampling frequency
-abbrev pub highest_frequency : ℤ
-highest_frequency = pos 5406720000
-
--- a frequency that can be sent
-abbrev pub frequency_allowed : ℤ → Bool
-frequency_allowed f = int_le (pos 0) f && int_le f highest_frequency
-
--- each of the ten frequencies is allowed
-abbrev pub FrequenciesAllowed : Parameters → Type 0
-FrequenciesAllowed p = (i : ℕ) → i < 10 → frequency_allowed (frequency_at p.frequencies i) ≡ true
-
--- refusal 10 of the first LSP whose frequency is not
-abbrev pub RefusesFrequencies : Parameters → Answer → Type 0
-RefusesFrequencies p answer = RefusedAtFirst 10 10 (λ i. frequency_allowed (frequency_at p.frequencies i)) answer
+-- ---- which parameters are allowed, beside the frequencies
 
 -- the pitch pair of each subframe of the rate is allowed
 abbrev pub PitchesAllowed : Rate → Parameters → Type 0
@@ -64,13 +42,10 @@ PitchesAllowed rate p = (i : ℕ) → i < (rate_is rate).pitch_subframes → pit
 
 -- the codebook parameter of each subframe of the rate is allowed
 abbrev pub CodebooksAllowed : Rate → Parameters → Type 0
-CodebooksAllowed rate p = (i : ℕ) → i < (rate_is rate).codebook_subframes → codebook_allowed rate (parameter_at p.codebooks i) ≡ true
+CodebooksAllowed rate p =
+    (i : ℕ) → i < (rate_is rate).codebook_subframes → codebook_allowed rate (parameter_at p.codebooks i) ≡ true
 
 -- ---- their codes
-
--- what is quantized, of frequencies and memories: frequency - bias - D(memory)
-abbrev pub offsets : List ℤ → List ℤ → List ℤ
-offsets fs m = ten (λ i. frequency_at fs i -ℤ bias i -ℤ decay (slice_index_or m i (pos 0)))
 
 -- the codes of the parameters, sent with memories m, but for CBSEED
 pub record Encodes (rate : Rate) (p : Parameters) (m : List ℤ) (c : CodeNumbers) : Type 0 where
@@ -87,38 +62,35 @@ drawn (suc n) seed = (521 * drawn n seed + 259) % 65536
 abbrev pub cbseed_of : ℕ → ℕ
 cbseed_of seed = bit seed 15 * 8 + bit seed 11 * 4 + bit seed 7 * 2 + bit seed 3
 
--- the codes with this CBSEED
-abbrev pub with_cbseed : ℕ → CodeNumbers → CodeNumbers
-with_cbseed n c = record { lsp = c.lsp; plag = c.plag; pgain = c.pgain; cbindex = c.cbindex; cbgain = c.cbgain; cbseed = n }
-
 -- with CBSEED of draw n the packet of these codes is all ones
 abbrev pub AllOnesAtDraw : CodeNumbers → ℕ → ℕ → Type 0
-AllOnesAtDraw c seed n = AllOnes Eighth (packet Eighth (with_cbseed (cbseed_of (drawn n seed)) c))
+AllOnesAtDraw c seed n = AllOnes Eighth (packet Eighth (record c { cbseed = cbseed_of (drawn n seed) }))
 
 -- at most 16 draws are made for a packet
-abbrev pub most_draws : ℕ
-most_draws = 16
+abbrev pub max_draws : ℕ
+max_draws = 16
 
 -- draw n is the first whose packet is not all ones
 pub record FirstNotAllOnes (c : CodeNumbers) (seed n : ℕ) : Type 0 where
   pub some : 1 ≤ n
-  pub most : n ≤ most_draws
+  pub most : n ≤ max_draws
   pub before : (k : ℕ) → 1 ≤ k → k < n → AllOnesAtDraw c seed k
   pub at : AllOnesAtDraw c seed n → ⊥
 
 -- n draws of the seed are made for the codes c, and the last gives CBSEED; only Rate 1/8 has any
-abbrev pub Draws : Rate → CodeNumbers → ℕ → ℕ → Type 0
-Draws Eighth c seed n = FirstNotAllOnes c seed n × (c.cbseed ≡ cbseed_of (drawn n seed))
-Draws Quarter c seed n = (n ≡ 0) × (c.cbseed ≡ 0)
-Draws Half c seed n = (n ≡ 0) × (c.cbseed ≡ 0)
-Draws Full c seed n = (n ≡ 0) × (c.cbseed ≡ 0)
+abbrev pub DrawsCbseed : Rate → CodeNumbers → ℕ → ℕ → Type 0
+DrawsCbseed Eighth c seed n = FirstNotAllOnes c seed n × (c.cbseed ≡ cbseed_of (drawn n seed))
+DrawsCbseed Quarter c seed n = (n ≡ 0) × (c.cbseed ≡ 0)
+DrawsCbseed Half c seed n = (n ≡ 0) × (c.cbseed ≡ 0)
+DrawsCbseed Full c seed n = (n ≡ 0) × (c.cbseed ≡ 0)
 
 -- each draw that may be made for the codes of the parameters gives a packet of all ones; only Rate 1/8 can have that
-abbrev pub NoDraw : Rate → Parameters → List ℤ → ℕ → Type 0
-NoDraw Eighth p m seed = (c : CodeNumbers) × Encodes Eighth p m c × ((k : ℕ) → 1 ≤ k → k ≤ most_draws → AllOnesAtDraw c seed k)
-NoDraw Quarter p m seed = ⊥
-NoDraw Half p m seed = ⊥
-NoDraw Full p m seed = ⊥
+abbrev pub AllDrawsAllOnes : Rate → Parameters → List ℤ → ℕ → Type 0
+AllDrawsAllOnes Eighth p m seed =
+    (c : CodeNumbers) × Encodes Eighth p m c × ((k : ℕ) → 1 ≤ k → k ≤ max_draws → AllOnesAtDraw c seed k)
+AllDrawsAllOnes Quarter p m seed = ⊥
+AllDrawsAllOnes Half p m seed = ⊥
+AllDrawsAllOnes Full p m seed = ⊥
 
 -- ---- a frame is coded, or refused
 
@@ -132,9 +104,9 @@ pub record Sent : Type 0 where
 -- a sender e codes the parameters at a rate
 pub record CodesFrame (q : Rate) (p : Parameters) (e : Sender) (f : Sent) : Type 0 where
   pub rate : f.rate ≡ q
-  pub frequencies : FrequenciesAllowed p
+  pub frequencies : FrequenciesAllowed p.frequencies
   pub codes : Encodes q p e.memories f.codes
-  pub draws : Draws q f.codes e.seed f.draws
+  pub draws : DrawsCbseed q f.codes e.seed f.draws
   pub bytes : f.bytes ≡ packet q f.codes
 
 -- the sender after it; its memories follow the codes, as a receiver's do
@@ -147,12 +119,15 @@ sender_after p f e = record {
 
 -- it refuses them; the tests are made in the order 10, 11, 12, 13
 abbrev pub CodingRefused : Rate → Parameters → Sender → Refusal → Type 0
-CodingRefused rate p e (Frequency i) = RefusesFrequencies p (refusal_is (Frequency i))
-CodingRefused rate p e (Pitch i) = FrequenciesAllowed p × RefusesPitches rate p.pitches (refusal_is (Pitch i))
+CodingRefused rate p e (Frequency i) = RefusesFrequencies p.frequencies (refusal_is (Frequency i))
+CodingRefused rate p e (Pitch i) =
+    FrequenciesAllowed p.frequencies × RefusesPitches rate p.pitches (refusal_is (Pitch i))
 CodingRefused rate p e (Codebook i) =
-    FrequenciesAllowed p × PitchesAllowed rate p × RefusesCodebooks rate p.codebooks (refusal_is (Codebook i))
-CodingRefused rate p e AllDraws =
-    FrequenciesAllowed p × PitchesAllowed rate p × CodebooksAllowed rate p × NoDraw rate p e.memories e.seed
+    FrequenciesAllowed p.frequencies × PitchesAllowed rate p
+    × RefusesCodebooks rate p.codebooks (refusal_is (Codebook i))
+CodingRefused rate p e Draws =
+    FrequenciesAllowed p.frequencies × PitchesAllowed rate p × CodebooksAllowed rate p
+    × AllDrawsAllOnes rate p e.memories e.seed
 CodingRefused rate p e _ = ⊥
 
 -- the packet as it arrives, if nothing disturbs it: the category of a packet has the number of its rate

@@ -1,0 +1,9 @@
+pub mod GuardedBits
+pub mod Arrivals
+pub mod Readings
+pub mod Ends
+pub mod Sending
+pub mod Links
+pub mod Rows
+pub mod Reels
+pub mod Pages

@@ -1,0 +1,4 @@
+//! What each call does, as definitions in `specs/` that the calls' contracts cite: how an arrival is made and read, what a supply
+//! hands over, what the two ends of a link do with it, the rows and the text of a page. It has no running code, and rests on the
+//! crates whose codes, packets, memories and reels it speaks of. What is proved of runs of calls is in the crate `law`.
+#![tactic(auto)]
