@@ -10,9 +10,11 @@ use service::{Rate, Refusal};
 /// Ten LSP codes with their rate, LSP 1 first, none above the rate's top code.
 #[derive(Clone, Copy, PartialEq, Eq, Debug)]
 pub struct LspCodes {
-    rate: Rate,
-    codes: [u8; 10],
-    ghost within: { Within rate codes },
+    /// The rate.
+    pub rate: Rate,
+    /// The codes, LSP 1 first.
+    pub codes: [u8; 10],
+    pub ghost within: { Within rate codes },
 }
 
 impl LspCodes {

@@ -4,8 +4,10 @@
 ghost use Rattle.packet_layout.specs.Laws.{EachCodeBitOnceAtEachRate, GuardedPlaces};
 
 mod code_bits;
+mod subframes;
 
 pub use code_bits::{CodeBit, CodeName};
+pub use subframes::{CodebookCodes, PitchCodes};
 
 /// Carries a theorem: at each rate, each code bit, check bits too, stands at exactly one place of the packet, and each bit of
 /// the packet carries one.
