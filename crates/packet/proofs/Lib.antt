@@ -11,3 +11,4 @@ pub mod Checked
 pub mod Trips
 pub mod Answers
 pub mod Changed
+pub mod Parts

@@ -78,7 +78,7 @@ message_of_front codes rest long =
     number_same _ _ (λ i. value_front codes rest (slice_get guarded_code_bits i) (λ c e. omega (arith, guarded_low i c e))) 18
 
 -- the lengths of the arrays of a frame's codes
-pub in_order_length : (c : CodeNumbers) → length c.lsp ≡ 10 → length c.plag ≡ 4 → length c.pgain ≡ 4 → length c.cbindex ≡ 8 → length c.cbgain ≡ 8 → length (in_order c) ≡ 35
+pub in_order_length : (c : CodeNumbers) → length c.lsp ≡ 10 → length c.pitch.plag ≡ 4 → length c.pitch.pgain ≡ 4 → length c.codebook.cbindex ≡ 8 → length c.codebook.cbgain ≡ 8 → length (in_order c) ≡ 35
 in_order_length c h1 h2 h3 h4 h5 = simp length-append (omega arith)
 
 pub message_of_codes : (c : CodeNumbers) (pcb : ℕ) (list : List ℕ) → list ≡ list_of c pcb → length list ≡ 36 → message_of list ≡ message_of (in_order c)

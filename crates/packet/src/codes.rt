@@ -6,13 +6,17 @@ ghost use Rattle.packet_layout.specs.CodeBits.{Fits, bits_at};
 ghost use Rattle.packet.specs.Bits.{packet_of};
 ghost use Rattle.packet.specs.Reading.{ReadsTo};
 ghost use Rattle.packet.specs.Calls.{Holds, PacksCodes};
-ghost use Rattle.packet.specs.Codes.{Within};
+ghost use Rattle.packet.specs.Codes.{Within, with_cbseed};
 
 use crate::kinds::{EighthPacket, FullPacket, HalfPacket, QuarterPacket};
 use crate::lists::{CodeList, from_list, packet_list};
 use crate::packing::{read, write};
-use packet_layout::CodeName;
+use lsp::LspCodes;
+use packet_layout::{CodeName, CodebookCodes, PitchCodes};
 use service::{Category, Fault, Rate, Refusal};
+
+// CBSEED has four bits.
+const CBSEED_VALUES: u8 = 16;
 
 // What faults name in place of a record: a packet that stands alone has none.
 const NO_RECORD: u32 = 0;
@@ -22,14 +26,10 @@ const NO_RECORD: u32 = 0;
 pub struct CodeNumbers {
     /// LSP 1 to 10.
     pub lsp: [u8; 10],
-    /// PLAG of each pitch subframe.
-    pub plag: [u8; 4],
-    /// PGAIN of each pitch subframe.
-    pub pgain: [u8; 4],
-    /// CBINDEX of each codebook subframe.
-    pub cbindex: [u8; 8],
-    /// CBGAIN of each codebook subframe.
-    pub cbgain: [u8; 8],
+    /// PLAG and PGAIN.
+    pub pitch: PitchCodes,
+    /// CBINDEX and CBGAIN.
+    pub codebook: CodebookCodes,
     /// CBSEED.
     pub cbseed: u8,
 }
@@ -37,9 +37,11 @@ pub struct CodeNumbers {
 /// The codes of a frame at a rate: each is within its width, and those that the rate lacks are zero.
 #[derive(Clone, Copy, PartialEq, Eq, Debug)]
 pub struct Codes {
-    rate: Rate,
-    numbers: CodeNumbers,
-    ghost within: { Within rate numbers },
+    /// The rate.
+    pub rate: Rate,
+    /// The codes as plain numbers.
+    pub numbers: CodeNumbers,
+    pub ghost within: { Within rate numbers },
 }
 
 impl Codes {
@@ -69,6 +71,50 @@ impl Codes {
         ensures within { Within self.rate result }
     {
         self.numbers
+    }
+
+    /// The LSP codes, with the rate.
+    #[tactic(auto, using(crate::proofs::Parts::lsp_within))]
+    pub fn lsp(self) -> LspCodes
+        ensures rate { result.rate ≡ self.rate }
+        ensures codes { result.codes ≡ self.numbers.lsp }
+    {
+        let codes = self.numbers.lsp;
+        LspCodes {
+            rate: self.rate,
+            codes,
+        }
+    }
+
+    /// PLAG and PGAIN of each pitch subframe.
+    pub fn pitch(self) -> PitchCodes
+        ensures { result ≡ self.numbers.pitch }
+    {
+        self.numbers.pitch
+    }
+
+    /// CBINDEX and CBGAIN of each codebook subframe.
+    pub fn codebook(self) -> CodebookCodes
+        ensures { result ≡ self.numbers.codebook }
+    {
+        self.numbers.codebook
+    }
+
+    /// The codes with the lowest four bits of a number as CBSEED at Rate 1/8. The other rates have no CBSEED, and their codes
+    /// stay as they are.
+    #[tactic(auto, using(crate::proofs::Parts::seeded_within))]
+    pub fn with_cbseed(self, cbseed: u8) -> Codes
+        ensures rate { result.rate ≡ self.rate }
+        ensures numbers { result.numbers ≡ with_cbseed self.rate cbseed self.numbers }
+    {
+        let mut numbers = self.numbers;
+        if self.rate == Rate::Eighth {
+            numbers.cbseed = cbseed % CBSEED_VALUES;
+        }
+        Codes {
+            rate: self.rate,
+            numbers,
+        }
     }
 
     /// Writes the packet of the codes, with its check bits, from the buffer's start, keeps the rest of the buffer, and answers
@@ -169,9 +215,9 @@ fn within(rate: Rate, c: &CodeNumbers) -> bool
     ensures { MatchBool result (Within rate c.now) (Within rate c.now → ⊥) }
 {
     all_fit(rate, CodeName::Lsp, &c.lsp)
-        && all_fit(rate, CodeName::Plag, &c.plag)
-        && all_fit(rate, CodeName::Pgain, &c.pgain)
-        && all_fit(rate, CodeName::Cbindex, &c.cbindex)
-        && all_fit(rate, CodeName::Cbgain, &c.cbgain)
+        && all_fit(rate, CodeName::Plag, &c.pitch.plag)
+        && all_fit(rate, CodeName::Pgain, &c.pitch.pgain)
+        && all_fit(rate, CodeName::Cbindex, &c.codebook.cbindex)
+        && all_fit(rate, CodeName::Cbgain, &c.codebook.cbgain)
         && all_fit(rate, CodeName::Cbseed, &[c.cbseed])
 }

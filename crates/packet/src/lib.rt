@@ -10,6 +10,7 @@ mod codes;
 mod kinds;
 mod laws;
 mod lists;
+mod order;
 mod packing;
 
 pub use codes::{CodeNumbers, Codes};
@@ -40,6 +41,8 @@ pub fn unpack(rate: u8, packet: &[u8]) -> Result<Codes, Refusal>
 #[cfg(test)]
 mod tests {
     use super::*;
+    use lsp::LspCodes;
+    use packet_layout::PitchCodes;
     use service::Fault;
     use std::test::Fail;
 
@@ -69,7 +72,7 @@ mod tests {
     #[test]
     fn check_bits_of_one_code_bit(rt: HostRuntime) -> Result<(), Fail> {
         let mut numbers = CodeNumbers::default();
-        numbers.cbgain[7] = 0b010;
+        numbers.codebook.cbgain[7] = 0b010;
         let packet = packet_of(&numbers)?;
         for j in 1..=10usize {
             let set = [10, 9, 7, 6, 4, 1].contains(&j);
@@ -84,13 +87,48 @@ mod tests {
         let codes = unpack(RATE_1_8, &[0xff, 0xff])?;
         let mut numbers = CodeNumbers::default();
         numbers.lsp = [1; 10];
-        numbers.cbgain[0] = 3;
+        numbers.codebook.cbgain[0] = 3;
         numbers.cbseed = 15;
         assert_eq!(rt; codes.numbers(), numbers);
         let mut out = [0; 3];
         assert_eq!(rt; codes.pack(&mut out), Ok(2));
         assert_eq!(rt; out, [0xff, 0xff, 0]);
         Ok(())
+    }
+
+    #[test]
+    fn parts_of_codes(rt: HostRuntime) -> Result<(), Fail> {
+        let codes = unpack(RATE_1_8, &[0xff, 0xff])?;
+        assert_eq!(rt; codes.lsp(), LspCodes::new(Rate::Eighth, [1; 10])?);
+        assert_eq!(rt; codes.pitch(), PitchCodes::default());
+        assert_eq!(rt; codes.codebook().cbindex, [0; 8]);
+        assert_eq!(rt; codes.codebook().cbgain, [3, 0, 0, 0, 0, 0, 0, 0]);
+        Ok(())
+    }
+
+    #[test]
+    fn another_cbseed(rt: HostRuntime) -> Result<(), Fail> {
+        let eighth = Codes::new(Rate::Eighth, CodeNumbers::default())?;
+        assert_eq!(rt; eighth.with_cbseed(0xf5).numbers().cbseed, 5);
+        let quarter = Codes::new(Rate::Quarter, CodeNumbers::default())?;
+        assert_eq!(rt; quarter.with_cbseed(0xf5), quarter);
+        Ok(())
+    }
+
+    #[test]
+    fn codes_in_order(rt: HostRuntime) {
+        let mut order = [0; 35];
+        for i in 0..35 {
+            order[i] = i as u8;
+        }
+        let numbers = CodeNumbers::from_order(order);
+        assert_eq!(rt; numbers.lsp[9], 9);
+        assert_eq!(rt; numbers.pitch.plag, [10, 11, 12, 13]);
+        assert_eq!(rt; numbers.pitch.pgain, [14, 15, 16, 17]);
+        assert_eq!(rt; numbers.codebook.cbindex[0], 18);
+        assert_eq!(rt; numbers.codebook.cbgain[7], 33);
+        assert_eq!(rt; numbers.cbseed, 34);
+        assert_eq!(rt; numbers.in_order(), order);
     }
 
     #[test]
