@@ -11,10 +11,10 @@ use Rattle.service.specs.Refusals.{Answer, refused_at}
 use Rattle.packet_layout.specs.declared.code_bits.CodeName.{CodeName}
 use Rattle.packet_layout.specs.declared.code_bits.CodeName.TheVariants.{Plag, Pgain, Cbindex, Cbgain}
 use Rattle.packet_layout.specs.CodeBits.{Fits, bits_at}
-use Rattle.figures.specs.declared.codebook.CodebookCodes.{CodebookCodes}
+use Rattle.packet_layout.specs.declared.subframes.CodebookCodes.{CodebookCodes}
 use Rattle.figures.specs.declared.codebook.CodebookFigure.{CodebookFigure}
 use Rattle.figures.specs.declared.codebook.CodebookParameter.{CodebookParameter}
-use Rattle.figures.specs.declared.pitch.PitchCodes.{PitchCodes}
+use Rattle.packet_layout.specs.declared.subframes.PitchCodes.{PitchCodes}
 use Rattle.service.specs.FirstToFail.{FirstToFail, RefusedAtFirst}
 use Rattle.figures.specs.Pitch.{DecodesPitches, EncodesPitches, pair_at, pitch_allowed, pitch_of}
 use Rattle.figures.specs.Codebook.{DecodesCodebooks, EncodesCodebooks, codebook_allowed, figure_of_codes, parameter_at}
@@ -50,7 +50,7 @@ refusal number n passes a b (i, f, e) (j, g, e') =
     e ∙ ap (λ (k : ℕ). refused_at number (k + 1)) (first n passes i j f g) ∙ sym e'
 
 -- where all pass, nothing is refused
-not_refused : (number n : ℕ) (passes : ℕ → Bool) (a : Answer) → ((i : ℕ) → i < n → passes i ≡ true) → RefusedAtFirst number n passes a → ⊥
+pub not_refused : (number n : ℕ) (passes : ℕ → Bool) (a : Answer) → ((i : ℕ) → i < n → passes i ≡ true) → RefusedAtFirst number n passes a → ⊥
 not_refused number n passes a all (i, f, e) = false≢true (sym f.fails ∙ all i f.within)
 
 -- the widths of the codes of a pitch subframe

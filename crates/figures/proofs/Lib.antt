@@ -1,3 +1,4 @@
 pub mod Pitches
 pub mod Codebooks
 pub mod Frames
+pub mod Whole

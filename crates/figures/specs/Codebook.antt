@@ -13,7 +13,7 @@ use Rattle.figures.specs.declared.codebook.Sign.{Sign}
 use Rattle.figures.specs.declared.codebook.Sign.TheVariants.{Plus, Minus}
 use Rattle.figures.specs.declared.codebook.CodebookFigure.{CodebookFigure}
 use Rattle.figures.specs.declared.codebook.CodebookParameter.{CodebookParameter}
-use Rattle.figures.specs.declared.codebook.CodebookCodes.{CodebookCodes}
+use Rattle.packet_layout.specs.declared.subframes.CodebookCodes.{CodebookCodes}
 use Rattle.service.specs.FirstToFail.{RefusedAtFirst}
 
 -- the increments, in decibels, that the numbers 0 to 3 stand for; negsuc 3 is -4, and negsuc 1 is -2

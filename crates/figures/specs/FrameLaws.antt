@@ -5,10 +5,10 @@ use Rattle.service.specs.Rates.{rate_is}
 use Rattle.service.specs.Refusals.{Answer}
 use Rattle.packet_layout.specs.declared.code_bits.CodeName.TheVariants.{Plag, Pgain, Cbindex, Cbgain}
 use Rattle.packet_layout.specs.CodeBits.{Fits}
-use Rattle.figures.specs.declared.codebook.CodebookCodes.{CodebookCodes}
+use Rattle.packet_layout.specs.declared.subframes.CodebookCodes.{CodebookCodes}
 use Rattle.figures.specs.declared.codebook.CodebookFigure.{CodebookFigure}
 use Rattle.figures.specs.declared.codebook.CodebookParameter.{CodebookParameter}
-use Rattle.figures.specs.declared.pitch.PitchCodes.{PitchCodes}
+use Rattle.packet_layout.specs.declared.subframes.PitchCodes.{PitchCodes}
 use Rattle.figures.specs.Codebook.{DecodesCodebooks, EncodesCodebooks, RefusesCodebooks, parameter_at}
 use Rattle.figures.specs.Laws.{figure_of_parameter}
 use Rattle.figures.specs.Pitch.{DecodesPitches, EncodesPitches, RefusesPitches, no_pitch, pair_at}

@@ -5,7 +5,7 @@ use Rattle.std.specs.Prelude.{slice_index, slice_index_or}
 use Rattle.service.specs.declared.rates.Rate.{Rate}
 use Rattle.service.specs.Rates.{rate_is}
 use Rattle.service.specs.Refusals.{Answer}
-use Rattle.figures.specs.declared.pitch.PitchCodes.{PitchCodes}
+use Rattle.packet_layout.specs.declared.subframes.PitchCodes.{PitchCodes}
 use Rattle.service.specs.FirstToFail.{RefusedAtFirst}
 
 -- no pitch: lag 16 and gain 0

@@ -8,6 +8,7 @@ ghost use Rattle.figures.specs.Codebook.{cbgain_of, cbindex_of, codebook_allowed
 ghost use Rattle.figures.specs.Codebook.{increment_number, increment_of, increments};
 ghost use Rattle.figures.specs.Codebook.{index_allowed, index_of, sends_index_and_sign, sign_allowed, sign_of};
 
+use packet_layout::CodebookCodes;
 use service::{Rate, Refusal};
 use std::array::from_fn;
 
@@ -58,15 +59,6 @@ pub struct CodebookParameter {
     pub index: u32,
     /// In decibels, one of the rate's four: -4, 0, 4 and 8 at Rates 1 and 1/2, -4, -2, 0 and 2 at Rates 1/4 and 1/8.
     pub increment: i32,
-}
-
-/// CBINDEX and CBGAIN of the codebook subframes of a frame.
-#[derive(Clone, Copy, PartialEq, Eq, Debug, Default)]
-pub struct CodebookCodes {
-    /// The indices, and 89 more, modulo 128, where the sign is minus. Rate 1/8 has none.
-    pub cbindex: [u8; 8],
-    /// The numbers of the increments, and 4 more where the sign is minus.
-    pub cbgain: [u8; 8],
 }
 
 /// What CBINDEX and CBGAIN stand for at this rate.

@@ -1,4 +1,5 @@
 //! The laws of the figures, each a theorem that the contract of a function carries.
+ghost use Rattle.figures.specs.Frame.{OneFrameAnswer};
 ghost use Rattle.figures.specs.FrameLaws.{EncodedCodesFit, FramesReadAsSent, OneCodebookAnswer, OnePitchAnswer};
 ghost use Rattle.figures.specs.Laws.{CodebookRoundTrips, PitchRoundTrips};
 
@@ -43,4 +44,10 @@ pub fn one_pitch_answer()
 #[tactic(auto, using(crate::proofs::Frames::one_codebook_answer))]
 pub fn one_codebook_answer()
     ensures { OneCodebookAnswer }
+{}
+
+/// Carries a theorem: two answers of `encode_frame` to the same frame are the same codes at the same rate, or the same refusal.
+#[tactic(auto, using(crate::proofs::Whole::one_frame_answer))]
+pub fn one_frame_answer()
+    ensures { OneFrameAnswer }
 {}

@@ -1,25 +1,31 @@
 //! The figures that the pitch and codebook codes of a packet stand for, both ways: a lag and a gain, and a sign, an index and an
-//! increment.
+//! increment. And the codes of a whole frame.
 #![tactic(auto)]
 
 mod codebook;
+mod frame;
 mod laws;
 mod pitch;
 
 pub use codebook::{
-    CodebookCodes, CodebookFigure, CodebookParameter, Sign, decode_codebook, decode_codebooks,
-    encode_codebook, encode_codebooks,
+    CodebookFigure, CodebookParameter, Sign, decode_codebook, decode_codebooks, encode_codebook,
+    encode_codebooks,
 };
+pub use frame::encode_frame;
 pub use laws::{
     codebook_round_trips, encoded_codes_fit, frames_read_as_sent, one_codebook_answer,
-    one_pitch_answer, pitch_round_trips,
+    one_frame_answer, one_pitch_answer, pitch_round_trips,
 };
-pub use pitch::{PitchCodes, decode_pitch, decode_pitches, encode_pitch, encode_pitches};
+pub use packet_layout::{CodebookCodes, PitchCodes};
+pub use pitch::{decode_pitch, decode_pitches, encode_pitch, encode_pitches};
 
 #[cfg(test)]
 mod tests {
     use super::*;
+    use lsp::LspCodes;
+    use packet::CodeNumbers;
     use service::{Rate, Refusal};
+    use std::test::Fail;
 
     #[test]
     fn pitch_pairs(rt: HostRuntime) {
@@ -102,5 +108,41 @@ mod tests {
         let read = decode_codebooks(Rate::Eighth, codes);
         assert_eq!(rt; read[0].map(|figure| figure.increment), Some(2));
         assert_eq!(rt; read[1], None);
+    }
+
+    // At Rate 1/4 the second pitch pair and the third codebook parameter are past the subframes.
+    #[test]
+    fn codes_of_a_frame(rt: HostRuntime) -> Result<(), Fail> {
+        let lsp = LspCodes::new(Rate::Quarter, [1, 0, 1, 0, 1, 0, 1, 0, 1, 0])?;
+        let mut pairs = [(17, 1), (0, 0), (0, 0), (0, 0)];
+        let mut parameters = [parameter(Sign::Plus, 128, 0); 8];
+        parameters[0] = parameter(Sign::Plus, 127, 2);
+        parameters[1] = parameter(Sign::Minus, 0, -4);
+        let codes = encode_frame(lsp, pairs, parameters)?;
+        let expected = CodeNumbers {
+            lsp: lsp.codes(),
+            pitch: PitchCodes {
+                plag: [1, 0, 0, 0],
+                pgain: [0; 4],
+            },
+            codebook: CodebookCodes {
+                cbindex: [127, 89, 0, 0, 0, 0, 0, 0],
+                cbgain: [3, 4, 0, 0, 0, 0, 0, 0],
+            },
+            cbseed: 0,
+        };
+        assert_eq!(rt; codes.rate(), Rate::Quarter);
+        assert_eq!(rt; codes.numbers(), expected);
+        parameters[1] = parameter(Sign::Plus, 128, 0);
+        assert_eq!(rt;
+            encode_frame(lsp, pairs, parameters),
+            Err(Refusal::Codebook(2))
+        );
+        pairs[0] = (16, 1);
+        assert_eq!(rt;
+            encode_frame(lsp, pairs, parameters),
+            Err(Refusal::Pitch(1))
+        );
+        Ok(())
     }
 }

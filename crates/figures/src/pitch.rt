@@ -5,6 +5,7 @@ ghost use Rattle.service.specs.Refusals.{refusal_is, refused_at};
 ghost use Rattle.figures.specs.Pitch.{DecodesPitches, EncodesPitches, RefusesPitches};
 ghost use Rattle.figures.specs.Pitch.{pitch_allowed, pitch_at, pitch_codes, pitch_of};
 
+use packet_layout::PitchCodes;
 use service::{Rate, Refusal};
 use std::array::from_fn;
 
@@ -25,15 +26,6 @@ const MAX_LAG: u32 = 143;
 
 // The largest gain: two, in quarters.
 const MAX_GAIN: u32 = 8;
-
-/// PLAG and PGAIN of the pitch subframes of a frame.
-#[derive(Clone, Copy, PartialEq, Eq, Debug, Default)]
-pub struct PitchCodes {
-    /// The codes of the lags: 0 for no pitch, and else 16 below the lag.
-    pub plag: [u8; 4],
-    /// The codes of the gains: 1 below the gain in quarters, and without meaning where PLAG is 0.
-    pub pgain: [u8; 4],
-}
 
 /// The lag and the gain that PLAG and PGAIN stand for: lag 16 and gain 0 at PLAG 0, whatever PGAIN is.
 #[tactic(auto, unfolding(crate::specs::Pitch::pitch_of))]
