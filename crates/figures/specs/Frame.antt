@@ -8,7 +8,7 @@ use Rattle.packet.specs.declared.codes.CodeNumbers.{CodeNumbers}
 use Rattle.packet.specs.declared.codes.Codes.{Codes}
 use Rattle.packet.specs.OneAnswer.{SameUnpacked}
 use Rattle.figures.specs.declared.codebook.CodebookParameter.{CodebookParameter}
-use Rattle.figures.specs.Codebook.{EncodesCodebooks, RefusesCodebooks}
+use Rattle.figures.specs.Codebook.{EncodesCodebooks, RefusesCodebooks, codebook_allowed, parameter_at}
 use Rattle.figures.specs.Pitch.{EncodesPitches, RefusesPitches, pair_at, pitch_allowed}
 
 -- These are the codes of a frame: its LSP codes as they are, those of its pairs and parameters, and CBSEED 0.
@@ -22,6 +22,11 @@ pub record EncodesFrame (rate : Rate) (lsp_codes : List ℕ) (pairs : List (ℕ 
 -- the pair of each pitch subframe of the rate is one that codes can stand for
 abbrev pub PitchesAllowed : Rate → List (ℕ × ℕ) → Type 0
 PitchesAllowed rate pairs = (i : ℕ) → i < (rate_is rate).pitch_subframes → pitch_allowed (pair_at pairs i) ≡ true
+
+-- the parameter of each codebook subframe of the rate is one that codes can stand for
+abbrev pub CodebooksAllowed : Rate → List CodebookParameter → Type 0
+CodebooksAllowed rate parameters =
+    (i : ℕ) → i < (rate_is rate).codebook_subframes → codebook_allowed rate (parameter_at parameters i) ≡ true
 
 -- refusal 11 of the first pitch subframe that fails, and if none does, 12 of the first codebook subframe
 abbrev pub RefusesFrame : Rate → List (ℕ × ℕ) → List CodebookParameter → Answer → Type 0

@@ -6,13 +6,13 @@ use Rattle.service.specs.Rates.{rate_is}
 use Rattle.lsp.specs.Quantizers.{quantized}
 use Rattle.packet.specs.declared.codes.CodeNumbers.{CodeNumbers}
 use Rattle.packet.specs.Calls.{packet}
-use Rattle.figures.specs.declared.codebook.CodebookCodes.{CodebookCodes}
-use Rattle.figures.specs.declared.pitch.PitchCodes.{PitchCodes}
+use Rattle.packet_layout.specs.declared.subframes.CodebookCodes.{CodebookCodes}
+use Rattle.packet_layout.specs.declared.subframes.PitchCodes.{PitchCodes}
 use Rattle.figures.specs.Pitch.{EncodesPitches, pair_at, pitch_codes as pitch_code}
 use Rattle.figures.specs.Codebook.{EncodesCodebooks, codebook_codes as codebook_code, parameter_at}
 use Rattle.figures.proofs.Frames.{one_codebook_answer, one_pitch_answer}
-use Rattle.rules.specs.Readings.{codebook_codes_in, pitch_codes_in}
-use Rattle.rules.specs.Sending.{AreComplete, CodebooksAllowed, DrawsCbseed, Encodes, FirstNotAllOnes, AllDrawsAllOnes, AllOnesAtDraw, Parameters, PitchesAllowed, cbseed_of, drawn, max_draws}
+use Rattle.rules.specs.Sending.{AreComplete, DrawsCbseed, Encodes, FirstNotAllOnes, AllDrawsAllOnes, AllOnesAtDraw, Parameters, cbseed_of, drawn, max_draws}
+use Rattle.figures.specs.Frame.{CodebooksAllowed, PitchesAllowed}
 use Rattle.law.proofs.Filled.{filled, filled_front, filled_length, filled_past}
 use Rattle.law.proofs.Searches.{all_or_first, first_once}
 use Rattle.law.proofs.OneReading.{codebook_subframes_le, known_ones, pitch_subframes_le}
@@ -37,17 +37,15 @@ module _ (rate : Rate) (p : Parameters) (m : List ℤ) where
   abbrev pub codes_of : ℕ → CodeNumbers
   codes_of cbseed = record {
     lsp = quantized rate (offsets p.frequencies m);
-    plag = pitch_part (λ c. c.0);
-    pgain = pitch_part (λ c. c.1);
-    cbindex = codebook_part (λ c. c.0);
-    cbgain = codebook_part (λ c. c.1);
+    pitch = record { plag = pitch_part (λ c. c.0); pgain = pitch_part (λ c. c.1) };
+    codebook = record { cbindex = codebook_part (λ c. c.0); cbgain = codebook_part (λ c. c.1) };
     cbseed = cbseed;
   }
 
   pair_is : (a b : ℕ) (c : ℕ × ℕ) → a ≡ c.0 → b ≡ c.1 → (a, b) ≡ c
   pair_is a b c e e' = ap₂ (λ (x y : ℕ). (x, y)) e e'
 
-  pitches_encoded : AreComplete p → PitchesAllowed rate p → (cbseed : ℕ) → EncodesPitches rate p.pitches (pitch_codes_in (codes_of cbseed))
+  pitches_encoded : AreComplete p → PitchesAllowed rate p.pitches → (cbseed : ℕ) → EncodesPitches rate p.pitches (codes_of cbseed).pitch
   pitches_encoded complete allowed cbseed =
       let s = (rate_is rate).pitch_subframes in
       let front = λ (part : (ℕ × ℕ) → ℕ). filled_front 4 s (λ i. part (pitch_at i)) 0 0 (pitch_subframes_le rate) in
@@ -61,7 +59,7 @@ module _ (rate : Rate) (p : Parameters) (m : List ℤ) where
         past = λ i k h. pair_is _ _ (0, 0) (past (λ c. c.0) i k h) (past (λ c. c.1) i k h);
       }
 
-  codebooks_encoded : AreComplete p → CodebooksAllowed rate p → (cbseed : ℕ) → EncodesCodebooks rate p.codebooks (codebook_codes_in (codes_of cbseed))
+  codebooks_encoded : AreComplete p → CodebooksAllowed rate p.codebooks → (cbseed : ℕ) → EncodesCodebooks rate p.codebooks (codes_of cbseed).codebook
   codebooks_encoded complete allowed cbseed =
       let s = (rate_is rate).codebook_subframes in
       let front = λ (part : (ℕ × ℕ) → ℕ). filled_front 8 s (λ i. part (codebook_at i)) 0 0 (codebook_subframes_le rate) in
@@ -75,7 +73,7 @@ module _ (rate : Rate) (p : Parameters) (m : List ℤ) where
         past = λ i k h. pair_is _ _ (0, 0) (past (λ c. c.0) i k h) (past (λ c. c.1) i k h);
       }
 
-  pub encoded : AreComplete p → PitchesAllowed rate p → CodebooksAllowed rate p → (cbseed : ℕ) → Encodes rate p m (codes_of cbseed)
+  pub encoded : AreComplete p → PitchesAllowed rate p.pitches → CodebooksAllowed rate p.codebooks → (cbseed : ℕ) → Encodes rate p m (codes_of cbseed)
   encoded complete pitches codebooks cbseed = record { lsp = refl; pitch = pitches_encoded complete pitches cbseed; codebook = codebooks_encoded complete codebooks cbseed }
 
 -- ---- and no others
@@ -85,13 +83,13 @@ abbrev pub unseeded : CodeNumbers → CodeNumbers
 unseeded c = record c { cbseed = 0 }
 
 abbrev codes_from : List ℕ → PitchCodes → CodebookCodes → CodeNumbers
-codes_from lsp p b = record { lsp = lsp; plag = p.plag; pgain = p.pgain; cbindex = b.cbindex; cbgain = b.cbgain; cbseed = 0 }
+codes_from lsp p b = record { lsp = lsp; pitch = p; codebook = b; cbseed = 0 }
 
 pub encoded_once : (rate : Rate) (p : Parameters) (m : List ℤ) (c c' : CodeNumbers) → Encodes rate p m c → Encodes rate p m c' → unseeded c ≡ unseeded c'
 encoded_once rate p m c c' a b =
-    ap (λ x. codes_from x (pitch_codes_in c) (codebook_codes_in c)) (a.lsp ∙ sym b.lsp)
-    ∙ ap (λ x. codes_from c'.lsp x (codebook_codes_in c)) (one_pitch_answer.encoded rate p.pitches (pitch_codes_in c) (pitch_codes_in c') a.pitch b.pitch)
-    ∙ ap (λ x. codes_from c'.lsp (pitch_codes_in c') x) (one_codebook_answer.encoded rate p.codebooks (codebook_codes_in c) (codebook_codes_in c') a.codebook b.codebook)
+    ap (λ x. codes_from x c.pitch c.codebook) (a.lsp ∙ sym b.lsp)
+    ∙ ap (λ x. codes_from c'.lsp x c.codebook) (one_pitch_answer.encoded rate p.pitches c.pitch c'.pitch a.pitch b.pitch)
+    ∙ ap (λ x. codes_from c'.lsp c'.pitch x) (one_codebook_answer.encoded rate p.codebooks c.codebook c'.codebook a.codebook b.codebook)
 
 pub same_codes : (c c' : CodeNumbers) → unseeded c ≡ unseeded c' → c.cbseed ≡ c'.cbseed → c ≡ c'
 same_codes c c' e seeds = ap (λ (x : CodeNumbers). record x { cbseed = c.cbseed }) e ∙ ap (λ k. record c' { cbseed = k }) seeds
@@ -134,7 +132,7 @@ no_draw_made Half p m c seed n none e d = none
 no_draw_made Full p m c seed n none e d = none
 
 -- the codes and the draws, or no draw
-pub codes_or_none : (rate : Rate) (p : Parameters) (m : List ℤ) (seed : ℕ) → AreComplete p → PitchesAllowed rate p → CodebooksAllowed rate p
+pub codes_or_none : (rate : Rate) (p : Parameters) (m : List ℤ) (seed : ℕ) → AreComplete p → PitchesAllowed rate p.pitches → CodebooksAllowed rate p.codebooks
     → ((c : CodeNumbers) × (n : ℕ) × Encodes rate p m c × DrawsCbseed rate c seed n) ⊎ AllDrawsAllOnes rate p m seed
 codes_or_none Eighth p m seed complete pitches codebooks = elim (draws_or_none (codes_of Eighth p m 0) seed) [
   | inl (n, f) ↦

@@ -18,7 +18,7 @@ use Rattle.packet.specs.Calls.{Holds, packet}
 use Rattle.packet.specs.Codes.{Within}
 use Rattle.packet.proofs.Returns.{packet_holds}
 use Rattle.rules.specs.Arrivals.{Arrival}
-use Rattle.rules.specs.Readings.{AllOnes, Reading, Reads, codebook_codes_in, pitch_codes_in}
+use Rattle.rules.specs.Readings.{AllOnes, Reading, Reads}
 use Rattle.rules.specs.Ends.{Receiver, Taken, new_receiver, receiver_after}
 use Rattle.rules.specs.Pages.{digits_text, frequencies_text, header_text, row_text, rows_text}
 use Rattle.rules.specs.Reels.{recorded}
@@ -61,8 +61,8 @@ abbrev reading : Reading
 reading = record {
   rate = Rate1/8;
   codes = zeros;
-  pitches = (pitches_some Rate1/8 (pitch_codes_in zeros) refl refl).0;
-  codebooks = (codebooks_some Rate1/8 (codebook_codes_in zeros) refl refl).0;
+  pitches = (pitches_some Rate1/8 zeros.pitch refl refl).0;
+  codebooks = (codebooks_some Rate1/8 zeros.codebook refl refl).0;
 }
 
 reads : Reads Eighth (0 ∷ 0 ∷ []) C (Some reading)
@@ -72,8 +72,8 @@ reads =
       (
         refl,
         (
-          record { rate = refl; codes = holds; codebooks = (codebooks_some Rate1/8 (codebook_codes_in zeros) refl refl).1 },
-          (pitches_some Rate1/8 (pitch_codes_in zeros) refl refl).1,
+          record { rate = refl; codes = holds; codebooks = (codebooks_some Rate1/8 zeros.codebook refl refl).1 },
+          (pitches_some Rate1/8 zeros.pitch refl refl).1,
         ),
       ),
     )

@@ -15,13 +15,13 @@ use Rattle.packet.specs.declared.codes.CodeNumbers.{CodeNumbers}
 use Rattle.packet.specs.Bits.{bit_at}
 use Rattle.packet.specs.CheckBits.{word_of}
 use Rattle.packet.proofs.Returns.{one_record}
-use Rattle.figures.specs.declared.codebook.CodebookCodes.{CodebookCodes}
+use Rattle.packet_layout.specs.declared.subframes.CodebookCodes.{CodebookCodes}
 use Rattle.figures.specs.declared.codebook.CodebookFigure.{CodebookFigure}
-use Rattle.figures.specs.declared.pitch.PitchCodes.{PitchCodes}
+use Rattle.packet_layout.specs.declared.subframes.PitchCodes.{PitchCodes}
 use Rattle.figures.specs.Pitch.{DecodesPitches, pitch_at}
 use Rattle.figures.specs.Codebook.{DecodesCodebooks, codebook_at}
 use Rattle.figures.proofs.Frames.{one_codebook_answer, one_pitch_answer}
-use Rattle.rules.specs.Readings.{AllOnes, IsNotRead, IsRead, IsReadWithPitchOff, Reading, Reads, ReadsCodes, codebook_codes_in, pitch_codes_in, pitch_off}
+use Rattle.rules.specs.Readings.{AllOnes, IsNotRead, IsRead, IsReadWithPitchOff, Reading, Reads, ReadsCodes, pitch_off}
 use Rattle.law.specs.Answers.{OneReadingOfEachArrival}
 use Rattle.law.proofs.Filled.{filled, filled_front, filled_length, filled_past}
 use Rattle.law.proofs.Searches.{all_or_first}
@@ -73,14 +73,14 @@ codebooks_some rate codes cbindex cbgain =
 read_some : (letter : Letter) (rate : Rate) (bytes : List ℕ) → (x : Option Reading) × IsRead letter rate bytes letter x
 read_some letter rate bytes =
     let (c, holds) = (one_record rate bytes).some in
-    let (pairs, p) = pitches_some rate (pitch_codes_in c) holds.within.sized.plag holds.within.sized.pgain in
-    let (figures, f) = codebooks_some rate (codebook_codes_in c) holds.within.sized.cbindex holds.within.sized.cbgain in
+    let (pairs, p) = pitches_some rate c.pitch holds.within.sized.plag holds.within.sized.pgain in
+    let (figures, f) = codebooks_some rate c.codebook holds.within.sized.cbindex holds.within.sized.cbgain in
     (Some (record { rate = rate; codes = c; pitches = pairs; codebooks = figures }), (refl, (record { rate = refl; codes = holds; codebooks = f }, p)))
 
 read_off_some : (letter : Letter) (bytes : List ℕ) → (x : Option Reading) × IsReadWithPitchOff letter bytes letter x
 read_off_some letter bytes =
     let (c, holds) = (one_record Rate1 bytes).some in
-    let (figures, f) = codebooks_some Rate1 (codebook_codes_in c) holds.within.sized.cbindex holds.within.sized.cbgain in
+    let (figures, f) = codebooks_some Rate1 c.codebook holds.within.sized.cbindex holds.within.sized.cbgain in
     (Some (record { rate = Rate1; codes = c; pitches = pitch_off; codebooks = figures }), (refl, (record { rate = refl; codes = holds; codebooks = f }, refl)))
 
 -- ---- and in one way
@@ -100,14 +100,14 @@ codes_once rate bytes r r' a b = (one_record rate bytes).only r.codes r'.codes a
 
 codebooks_once : (rate : Rate) (bytes : List ℕ) (r r' : Reading) → ReadsCodes rate bytes r → ReadsCodes rate bytes r' → r.codebooks ≡ r'.codebooks
 codebooks_once rate bytes r r' a b =
-    one_codebook_answer.decoded rate (codebook_codes_in r'.codes) r.codebooks r'.codebooks
-    (subst (λ c. DecodesCodebooks rate (codebook_codes_in c) r.codebooks) (codes_once rate bytes r r' a b) a.codebooks) b.codebooks
+    one_codebook_answer.decoded rate r'.codes.codebook r.codebooks r'.codebooks
+    (subst (λ c. DecodesCodebooks rate c.codebook r.codebooks) (codes_once rate bytes r r' a b) a.codebooks) b.codebooks
 
 read_once : (letter : Letter) (rate : Rate) (bytes : List ℕ) (l l' : Letter) (x x' : Option Reading) → IsRead letter rate bytes l x → IsRead letter rate bytes l' x' → (l ≡ l') × (x ≡ x')
 read_once letter rate bytes l l' (Some r) (Some r') (e, (a, p)) (e', (b, q)) =
     let codes = codes_once rate bytes r r' a b in
-    let pitches = one_pitch_answer.decoded rate (pitch_codes_in r'.codes) r.pitches r'.pitches
-    (subst (λ c. DecodesPitches rate (pitch_codes_in c) r.pitches) codes p) q in
+    let pitches = one_pitch_answer.decoded rate r'.codes.pitch r.pitches r'.pitches
+    (subst (λ c. DecodesPitches rate c.pitch r.pitches) codes p) q in
     (e ∙ sym e', ap Some (same_reading r r' (a.rate ∙ sym b.rate) codes pitches (codebooks_once rate bytes r r' a b)))
 read_once letter rate bytes l l' None x' (e, none) q = absurd none
 read_once letter rate bytes l l' (Some r) None p (e, none) = absurd none

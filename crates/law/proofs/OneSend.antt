@@ -12,7 +12,8 @@ use Rattle.packet.specs.Calls.{packet}
 use Rattle.service.specs.FirstToFail.{FirstToFail}
 use Rattle.figures.specs.Codebook.{codebook_allowed, parameter_at}
 use Rattle.figures.specs.Pitch.{pair_at, pitch_allowed}
-use Rattle.rules.specs.Sending.{send_answer, AreComplete, CodebooksAllowed, CodesFrame, AllDrawsAllOnes, Parameters, PitchesAllowed, Sent, arrival_sent, sender_after}
+use Rattle.rules.specs.Sending.{send_answer, AreComplete, CodesFrame, AllDrawsAllOnes, Parameters, Sent, arrival_sent, sender_after}
+use Rattle.figures.specs.Frame.{CodebooksAllowed, PitchesAllowed}
 use Rattle.law.proofs.Sent.{sent_bytes}
 use Rattle.rules.specs.Ends.{Sender}
 use Rattle.rules.specs.Links.{SendAnswers, HasRoom, IsFull, Line, Sends, with_last}
@@ -125,10 +126,10 @@ module _ (e : Sender) (line : Line) (n : ℕ) (p : Parameters) where
   FrequencyFails x = Fails refused 10 frequency_passes (λ i. Frequency i) x
 
   abbrev AtCodebooks : Rate → Outcome → Type 0
-  AtCodebooks rate x = CodebookFails rate x ⊎ (CodebooksAllowed rate p × AtDraws rate x)
+  AtCodebooks rate x = CodebookFails rate x ⊎ (CodebooksAllowed rate p.codebooks × AtDraws rate x)
 
   abbrev AtPitches : Rate → Outcome → Type 0
-  AtPitches rate x = PitchFails rate x ⊎ (PitchesAllowed rate p × AtCodebooks rate x)
+  AtPitches rate x = PitchFails rate x ⊎ (PitchesAllowed rate p.pitches × AtCodebooks rate x)
 
   abbrev AtFrequencies : Rate → Outcome → Type 0
   AtFrequencies rate x = FrequencyFails x ⊎ (FrequenciesAllowed p.frequencies × AtPitches rate x)
@@ -155,13 +156,13 @@ module _ (e : Sender) (line : Line) (n : ℕ) (p : Parameters) where
 
   at_codebooks_once : (rate : Rate) → Once (AtCodebooks rate)
   at_codebooks_once rate =
-      guard_once (CodebookFails rate) (CodebooksAllowed rate p) (AtDraws rate)
+      guard_once (CodebookFails rate) (CodebooksAllowed rate p.codebooks) (AtDraws rate)
       (not_passed refused (rate_is rate).codebook_subframes (codebook_passes rate) (λ i. Codebook i))
       (fails_once refused (rate_is rate).codebook_subframes (codebook_passes rate) (λ i. Codebook i)) (at_draws_once rate)
 
   at_pitches_once : (rate : Rate) → Once (AtPitches rate)
   at_pitches_once rate =
-      guard_once (PitchFails rate) (PitchesAllowed rate p) (AtCodebooks rate)
+      guard_once (PitchFails rate) (PitchesAllowed rate p.pitches) (AtCodebooks rate)
       (not_passed refused (rate_is rate).pitch_subframes pitch_passes (λ i. Pitch i))
       (fails_once refused (rate_is rate).pitch_subframes pitch_passes (λ i. Pitch i)) (at_codebooks_once rate)
 
@@ -219,7 +220,7 @@ module _ (e : Sender) (line : Line) (n : ℕ) (p : Parameters) where
   HasAnswer : Type 0
   HasAnswer = (r : Result Sent Refusal) × (e' : Sender) × (line' : Line) × Sends e line n p r e' line'
 
-  at_draws : AreComplete p → (rate : Rate) → (rate_is rate).number ≡ n → HasRoom line → FrequenciesAllowed p.frequencies → PitchesAllowed rate p → CodebooksAllowed rate p → HasAnswer
+  at_draws : AreComplete p → (rate : Rate) → (rate_is rate).number ≡ n → HasRoom line → FrequenciesAllowed p.frequencies → PitchesAllowed rate p.pitches → CodebooksAllowed rate p.codebooks → HasAnswer
   unfolding HasAnswer
   at_draws complete rate is room frequencies pitches codebooks = elim (codes_or_none rate p e.memories e.seed complete pitches codebooks) [
     | inl (c, m, encodes, d) ↦
@@ -240,7 +241,7 @@ module _ (e : Sender) (line : Line) (n : ℕ) (p : Parameters) where
     | inr none ↦ (Err AllOnesDrawn, e, line, (complete, (rate, (is, room), (frequencies, pitches, codebooks, none)), refl, refl))
   ]
 
-  at_codebooks : AreComplete p → (rate : Rate) → (rate_is rate).number ≡ n → HasRoom line → FrequenciesAllowed p.frequencies → PitchesAllowed rate p → HasAnswer
+  at_codebooks : AreComplete p → (rate : Rate) → (rate_is rate).number ≡ n → HasRoom line → FrequenciesAllowed p.frequencies → PitchesAllowed rate p.pitches → HasAnswer
   unfolding HasAnswer
   at_codebooks complete rate is room frequencies pitches = elim (all_or_fails (codebook_passes rate) (rate_is rate).codebook_subframes) [
     | inl codebooks ↦ at_draws complete rate is room frequencies pitches codebooks

@@ -16,13 +16,18 @@ use Rattle.packet.specs.Codes.{Within}
 use Rattle.figures.specs.declared.codebook.CodebookFigure.{CodebookFigure}
 use Rattle.figures.specs.Codebook.{DecodesCodebooks, figure_of_codes}
 use Rattle.figures.specs.Pitch.{DecodesPitches, pitch_of, no_pitch}
-use Rattle.rules.specs.Readings.{Reading, Reads, ReadsCodes, codebook_codes_in, pitch_codes_in, pitch_off}
+use Rattle.rules.specs.Readings.{Reading, Reads, ReadsCodes, pitch_off}
 use Rattle.law.proofs.Corrected.{both_changed_corrects_none, both_changed_syndrome, one_changed_corrects, one_changed_holds, pcb0_changed_holds, pcb0_changed_syndrome, sent_holds, sent_syndrome}
 use Rattle.law.proofs.Sent.{lsp_fits}
 use Rattle.packet.specs.Changes.{corrected_packet, with_bit_changed}
 
 abbrev pub silent : List ℕ → CodeNumbers
-silent lsp = record { lsp = lsp; plag = replicate 4 0; pgain = replicate 4 0; cbindex = replicate 8 0; cbgain = replicate 8 0; cbseed = 0 }
+silent lsp = record {
+  lsp = lsp;
+  pitch = record { plag = replicate 4 0; pgain = replicate 4 0 };
+  codebook = record { cbindex = replicate 8 0; cbgain = replicate 8 0 };
+  cbseed = 0;
+}
 
 pub zero_at : (n i : ℕ) → slice_index (replicate n 0) i ≡ 0
 zero_at zero i = refl
@@ -49,7 +54,7 @@ silent_figure = Some (figure_of_codes Rate1 0 0)
 abbrev pub silent_reading : List ℕ → Reading
 silent_reading lsp = record { rate = Rate1; codes = silent lsp; pitches = pitch_off; codebooks = replicate 8 silent_figure }
 
-codebooks_read : (lsp : List ℕ) → DecodesCodebooks Rate1 (codebook_codes_in (silent lsp)) (replicate 8 silent_figure)
+codebooks_read : (lsp : List ℕ) → DecodesCodebooks Rate1 (silent lsp).codebook (replicate 8 silent_figure)
 codebooks_read lsp = record {
   cbindex_length = refl;
   cbgain_length = refl;
@@ -62,7 +67,7 @@ none_of_zeros : pitch_of 0 0 ≡ no_pitch
 unfolding pitch_of
 none_of_zeros = refl
 
-pitches_read : (lsp : List ℕ) → DecodesPitches Rate1 (pitch_codes_in (silent lsp)) pitch_off
+pitches_read : (lsp : List ℕ) → DecodesPitches Rate1 (silent lsp).pitch pitch_off
 pitches_read lsp = record {
   plag_length = refl;
   pgain_length = refl;

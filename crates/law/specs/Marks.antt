@@ -21,10 +21,8 @@ use Rattle.rules.specs.Sending.{cbseed_of, drawn}
 abbrev pub only_cbgain8 : ℕ → CodeNumbers
 only_cbgain8 n = record {
   lsp = replicate 10 0;
-  plag = replicate 4 0;
-  pgain = replicate 4 0;
-  cbindex = replicate 8 0;
-  cbgain = replicate 7 0 ++ (n ∷ []);
+  pitch = record { plag = replicate 4 0; pgain = replicate 4 0 };
+  codebook = record { cbindex = replicate 8 0; cbgain = replicate 7 0 ++ (n ∷ []) };
   cbseed = 0;
 }
 

@@ -17,9 +17,7 @@ use Rattle.packet.specs.Bits.{bit_at}
 use Rattle.packet.specs.Calls.{Holds}
 use Rattle.packet.specs.Changes.{corrected_packet}
 use Rattle.packet.specs.CheckBits.{word_of}
-use Rattle.figures.specs.declared.codebook.CodebookCodes.{CodebookCodes}
 use Rattle.figures.specs.declared.codebook.CodebookFigure.{CodebookFigure}
-use Rattle.figures.specs.declared.pitch.PitchCodes.{PitchCodes}
 use Rattle.figures.specs.Pitch.{DecodesPitches, no_pitch, pair_at}
 use Rattle.figures.specs.Codebook.{DecodesCodebooks}
 
@@ -31,14 +29,6 @@ pub record Reading : Type 0 where
   pub pitches : List (ℕ × ℕ)
   pub codebooks : List (Option CodebookFigure)
 
--- the pitch codes among the codes of a frame
-abbrev pub pitch_codes_in : CodeNumbers → PitchCodes
-pitch_codes_in c = record { plag = c.plag; pgain = c.pgain }
-
--- the codebook codes among them
-abbrev pub codebook_codes_in : CodeNumbers → CodebookCodes
-codebook_codes_in c = record { cbindex = c.cbindex; cbgain = c.cbgain }
-
 -- pitch off: no pitch in any subframe of a frame
 abbrev pub pitch_off : List (ℕ × ℕ)
 pitch_off = replicate 4 no_pitch
@@ -47,13 +37,13 @@ pitch_off = replicate 4 no_pitch
 pub record ReadsCodes (q : Rate) (bytes : List ℕ) (r : Reading) : Type 0 where
   pub rate : r.rate ≡ q
   pub codes : Holds q bytes r.codes
-  pub codebooks : DecodesCodebooks q (codebook_codes_in r.codes) r.codebooks
+  pub codebooks : DecodesCodebooks q r.codes.codebook r.codebooks
 
 -- read with this letter, and with the pitch of the codes
 abbrev pub IsRead : Letter → Rate → List ℕ → Letter → Option Reading → Type 0
 IsRead letter rate bytes l x =
     (l ≡ letter)
-    × MatchOption x ⊥ (λ r. ReadsCodes rate bytes r × DecodesPitches rate (pitch_codes_in r.codes) r.pitches)
+    × MatchOption x ⊥ (λ r. ReadsCodes rate bytes r × DecodesPitches rate r.codes.pitch r.pitches)
 
 -- read at Rate 1 with this letter, and with pitch off
 abbrev pub IsReadWithPitchOff : Letter → List ℕ → Letter → Option Reading → Type 0

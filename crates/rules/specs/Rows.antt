@@ -21,7 +21,7 @@ pub record Row : Type 0 where
 
 -- CBGAIN of each codebook subframe that was read
 abbrev pub cbgain_read : Option Reading → Option (List ℕ)
-cbgain_read (Some r) = Some (take (rate_is r.rate).codebook_subframes r.codes.cbgain)
+cbgain_read (Some r) = Some (take (rate_is r.rate).codebook_subframes r.codes.codebook.cbgain)
 cbgain_read None = None
 
 -- the row of what was taken

@@ -1,5 +1,5 @@
 -- How a sender codes a frame, and when it refuses one.
-use Rattle.std.specs.Prelude.{◌≡◌, ℕ, zero, suc, ◌+◌, ◌*◌, ◌%◌, ◌<◌, ◌≤◌, true, List, [], ◌∷◌, length, Ok, Err, Result}
+use Rattle.std.specs.Prelude.{◌≡◌, ℕ, zero, suc, ◌+◌, ◌*◌, ◌%◌, ◌<◌, ◌≤◌, List, [], ◌∷◌, length, Ok, Err, Result}
 use Rattle.std.specs.Prelude.{ℤ}
 use Rattle.service.specs.declared.rates.Rate.{Rate}
 use Rattle.service.specs.declared.rates.Rate.TheVariants.{Full, Half, Quarter, Eighth}
@@ -15,10 +15,11 @@ use Rattle.packet.specs.declared.codes.CodeNumbers.{CodeNumbers}
 use Rattle.packet.specs.Bits.{bit}
 use Rattle.packet.specs.Calls.{packet}
 use Rattle.figures.specs.declared.codebook.CodebookParameter.{CodebookParameter}
-use Rattle.figures.specs.Codebook.{EncodesCodebooks, RefusesCodebooks, codebook_allowed, parameter_at}
-use Rattle.figures.specs.Pitch.{EncodesPitches, RefusesPitches, pair_at, pitch_allowed}
+use Rattle.figures.specs.Codebook.{EncodesCodebooks, RefusesCodebooks}
+use Rattle.figures.specs.Frame.{CodebooksAllowed, PitchesAllowed}
+use Rattle.figures.specs.Pitch.{EncodesPitches, RefusesPitches}
 use Rattle.rules.specs.Arrivals.{Arrival}
-use Rattle.rules.specs.Readings.{AllOnes, codebook_codes_in, last_pitch, pitch_codes_in}
+use Rattle.rules.specs.Readings.{AllOnes, last_pitch}
 use Rattle.rules.specs.Ends.{Sender}
 
 -- the parameters of a frame: LSP frequencies in grains, pitch pairs and codebook parameters. Those past the subframes
@@ -34,24 +35,13 @@ pub record AreComplete (p : Parameters) : Type 0 where
   pub pitches : length p.pitches ≡ 4
   pub codebooks : length p.codebooks ≡ 8
 
--- ---- which parameters are allowed, beside the frequencies
-
--- the pitch pair of each subframe of the rate is allowed
-abbrev pub PitchesAllowed : Rate → Parameters → Type 0
-PitchesAllowed rate p = (i : ℕ) → i < (rate_is rate).pitch_subframes → pitch_allowed (pair_at p.pitches i) ≡ true
-
--- the codebook parameter of each subframe of the rate is allowed
-abbrev pub CodebooksAllowed : Rate → Parameters → Type 0
-CodebooksAllowed rate p =
-    (i : ℕ) → i < (rate_is rate).codebook_subframes → codebook_allowed rate (parameter_at p.codebooks i) ≡ true
-
 -- ---- their codes
 
 -- the codes of the parameters, sent with memories m, but for CBSEED
 pub record Encodes (rate : Rate) (p : Parameters) (m : List ℤ) (c : CodeNumbers) : Type 0 where
   pub lsp : c.lsp ≡ quantized rate (offsets p.frequencies m)
-  pub pitch : EncodesPitches rate p.pitches (pitch_codes_in c)
-  pub codebook : EncodesCodebooks rate p.codebooks (codebook_codes_in c)
+  pub pitch : EncodesPitches rate p.pitches c.pitch
+  pub codebook : EncodesCodebooks rate p.codebooks c.codebook
 
 -- SD after n draws
 unfoldable pub drawn : ℕ → ℕ → ℕ
@@ -123,10 +113,10 @@ CodingRefused rate p e (Frequency i) = RefusesFrequencies p.frequencies (refusal
 CodingRefused rate p e (Pitch i) =
     FrequenciesAllowed p.frequencies × RefusesPitches rate p.pitches (refusal_is (Pitch i))
 CodingRefused rate p e (Codebook i) =
-    FrequenciesAllowed p.frequencies × PitchesAllowed rate p
+    FrequenciesAllowed p.frequencies × PitchesAllowed rate p.pitches
     × RefusesCodebooks rate p.codebooks (refusal_is (Codebook i))
 CodingRefused rate p e Draws =
-    FrequenciesAllowed p.frequencies × PitchesAllowed rate p × CodebooksAllowed rate p
+    FrequenciesAllowed p.frequencies × PitchesAllowed rate p.pitches × CodebooksAllowed rate p.codebooks
     × AllDrawsAllOnes rate p e.memories e.seed
 CodingRefused rate p e _ = ⊥
 
