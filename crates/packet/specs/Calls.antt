@@ -2,7 +2,7 @@
 use Rattle.std.specs.Prelude.{◌≡◌, ◌≢◌, ℕ, ◌<◌, ◌≤◌, ◌⊎◌, false, List, ◌++◌, Some, Result, MatchResult, length, drop}
 use Rattle.service.specs.declared.rates.Rate.{Rate}
 use Rattle.service.specs.declared.refusals.Refusal.{Refusal}
-use Rattle.service.specs.Categories.{category_of}
+use Rattle.service.specs.Categories.{category_of_packet}
 use Rattle.service.specs.Rates.{rate_is}
 use Rattle.service.specs.Refusals.{refusal_is, refused}
 use Rattle.service.specs.Tests.{spare_bits_set}
@@ -47,8 +47,7 @@ pub record Holds (rate : Rate) (packet : List ℕ) (c : CodeNumbers) : Type 0 wh
   pub bits :
       (k : ℕ) (b : CodeBit) → at (layout rate) k ≡ Some b → b.0 ≢ Pcb → value (in_order c) (Some b) ≡ bit_at packet k
 
--- the packet has the length of its rate, and its spare bits are zero; the number of a rate is that of the category of
--- its packets
+-- the packet has the length of its rate, and its spare bits are zero
 pub record Lawful (rate : Rate) (bytes : List ℕ) : Type 0 where
   pub length : length bytes ≡ (rate_is rate).bytes
-  pub spare : spare_bits_set (category_of (rate_is rate).number) bytes ≡ false
+  pub spare : spare_bits_set (category_of_packet rate) bytes ≡ false

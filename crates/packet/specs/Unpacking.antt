@@ -3,7 +3,7 @@ use Rattle.std.specs.Prelude.{◌≡◌, ◌≢◌, ℕ, ◌⊎◌, true, List, 
 use Rattle.service.specs.declared.rates.Rate.{Rate}
 use Rattle.service.specs.declared.refusals.Fault.{Fault}
 use Rattle.service.specs.declared.refusals.Refusal.{Refusal}
-use Rattle.service.specs.Categories.{category_of}
+use Rattle.service.specs.Categories.{category_of_packet}
 use Rattle.service.specs.Rates.{rate_is}
 use Rattle.service.specs.Refusals.{Answer, fault_is, refusal_is, refused, refused_at}
 use Rattle.service.specs.Tests.{spare_bits_set}
@@ -15,7 +15,7 @@ abbrev pub UnpackFault : Rate → List ℕ → Answer → Type 0
 UnpackFault rate bytes a =
     ((a ≡ refused_at 6 0) × (length bytes ≢ (rate_is rate).bytes))
     ⊎ ((a ≡ refused_at 9 0) × (length bytes ≡ (rate_is rate).bytes)
-    × (spare_bits_set (category_of (rate_is rate).number) bytes ≡ true))
+    × (spare_bits_set (category_of_packet rate) bytes ≡ true))
 
 -- what unpacking at a rate answers: the codes that a lawful packet holds, and else the fault
 abbrev pub UnpacksCodes : Rate → List ℕ → Result Codes Fault → Type 0

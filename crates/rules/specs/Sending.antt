@@ -5,7 +5,7 @@ use Rattle.service.specs.declared.rates.Rate.{Rate}
 use Rattle.service.specs.declared.rates.Rate.TheVariants.{Full, Half, Quarter, Eighth}
 use Rattle.service.specs.declared.refusals.Refusal.{Refusal}
 use Rattle.service.specs.declared.refusals.Refusal.TheVariants.{Frequency, Pitch, Codebook, Draws}
-use Rattle.service.specs.Categories.{category_of}
+use Rattle.service.specs.Categories.{category_of_packet}
 use Rattle.service.specs.Rates.{rate_is}
 use Rattle.service.specs.Refusals.{refusal_is}
 use Rattle.lsp.specs.Histories.{after, packet as packet_event}
@@ -122,7 +122,7 @@ CodingRefused rate p e _ = ⊥
 
 -- the packet as it arrives, if nothing disturbs it: the category of a packet has the number of its rate
 abbrev pub arrival_sent : Sent → Arrival
-arrival_sent f = record { category = category_of (rate_is f.rate).number; bytes = f.bytes }
+arrival_sent f = record { category = category_of_packet f.rate; bytes = f.bytes }
 
 -- what a send answers its caller: the number of draws, or the refusal
 abbrev pub send_answer : Result Sent Refusal → Result ℕ Refusal

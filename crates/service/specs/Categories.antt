@@ -32,3 +32,7 @@ category_is Erasure = no_packet 6
 -- the category of a number from 0 to 6
 abbrev pub category_of : ℕ → Category
 category_of n = slice_index_or (Blank ∷ Eighth ∷ Quarter ∷ Half ∷ Full ∷ Suspect ∷ Erasure ∷ []) n Blank
+
+-- the category of a packet at a rate, as it is sent: it has the number of the rate
+abbrev pub category_of_packet : Rate → Category
+category_of_packet rate = category_of (rate_is rate).number
