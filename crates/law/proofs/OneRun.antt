@@ -12,7 +12,7 @@ use Rattle.rules.specs.Links.{Line, Link, Source, other_supply, line_left, link_
 use Rattle.service.specs.Refusals.{Answer}
 use Rattle.rules.specs.Pages.{PageOf, header_text, refusal_line, rows_text}
 use Rattle.rules.specs.Reels.{arrivals_of}
-use Rattle.rules.specs.Rows.{Ends, GoesOn, PageRows, Row, RunAnswer, RunState, RunsTakes, StartsPage, TakesAll, row_of, rows_of}
+use Rattle.rules.specs.Rows.{EndsRun, GoesOn, PageRows, Row, RunAnswer, RunState, RunsTakes, StartsPage, TakesAll, row_of, rows_of}
 use Rattle.law.specs.Runs.{CallMade, RestartReceiver, Run, Step, Take, now}
 use Rattle.law.specs.Answers.{ChainOfTakesIsARun, ChainsOfTakesJoin, EachTakeIsACall, OneAnswerToEachRunOfTakes, OnePage, TakesAreCalls}
 use Rattle.law.proofs.OneTake.{take_once, take_some, takes_on, to_come_after}
@@ -59,7 +59,7 @@ record RunAnswered (wanted places : ℕ) (e : Receiver) (supply : List Arrival) 
 
 -- nothing is taken, for one of the three reasons
 none_taken : (wanted places : ℕ) (e : Receiver) (supply : List Arrival) (queue : List Row) (end : RunEnd)
-    → Ends end wanted 0 places (length queue) supply → RunAnswered wanted places e supply queue
+    → EndsRun end wanted 0 places (length queue) supply → RunAnswered wanted places e supply queue
 none_taken wanted places e supply queue end ended = record {
   answer = record { rows = 0; end = end };
   receiver = e;
@@ -75,8 +75,8 @@ none_taken wanted places e supply queue end ended = record {
   };
 }
 
-one_more_ended : (end : RunEnd) (wanted n places queued : ℕ) (rest : List Arrival) → Ends end wanted n places queued rest
-    → Ends end (suc wanted) (suc n) places queued rest
+one_more_ended : (end : RunEnd) (wanted n places queued : ℕ) (rest : List Arrival) → EndsRun end wanted n places queued rest
+    → EndsRun end (suc wanted) (suc n) places queued rest
 one_more_ended Wanted wanted n places queued rest l = omega arith
 one_more_ended RowsFull wanted n places queued rest (l, e) = (omega arith, e)
 one_more_ended SupplyEmpty wanted n places queued rest (l, h, e) = (omega arith, h, e)
@@ -156,7 +156,7 @@ takes_length e supply (x ∷ xs) d rest (c, list, one, more) =
     let l = ap length one.first in let m = takes_length c list xs d rest more in omega arith
 
 -- a run that has ended does not go on
-ended_not_more : (end : RunEnd) (wanted n places queued left : ℕ) (rest : List Arrival) → Ends end wanted n places queued rest
+ended_not_more : (end : RunEnd) (wanted n places queued left : ℕ) (rest : List Arrival) → EndsRun end wanted n places queued rest
     → left ≡ length rest → n < wanted → queued < places → 0 < left → ⊥
 ended_not_more Wanted wanted n places queued left rest e l w p g = omega arith
 ended_not_more RowsFull wanted n places queued left rest (k, e) l w p g = omega arith
@@ -193,7 +193,7 @@ module _ (wanted places : ℕ) (e : Receiver) (supply : List Arrival) (queue : L
   ]
 
   end_once : (end end' : RunEnd) (n m queued queued' : ℕ) (rest rest' : List Arrival) → n ≡ m → queued ≡ queued'
-      → Ends end wanted n places queued rest → Ends end' wanted m places queued' rest' → end ≡ end'
+      → EndsRun end wanted n places queued rest → EndsRun end' wanted m places queued' rest' → end ≡ end'
   end_once Wanted Wanted n m queued queued' rest rest' e d p q = refl
   end_once Wanted RowsFull n m queued queued' rest rest' e d p (l, k) = absurd (omega arith)
   end_once Wanted SupplyEmpty n m queued queued' rest rest' e d p (l, h, k) = absurd (omega arith)

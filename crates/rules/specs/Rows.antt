@@ -47,10 +47,10 @@ pub record RunAnswer : Type 0 where
 
 -- Which of three ends a run once it has queued n rows, with so many in the queue and these arrivals left: the first
 -- that holds, tested in this order.
-abbrev pub Ends : RunEnd → (wanted n places queued : ℕ) → List Arrival → Type 0
-Ends Wanted wanted n places queued rest = wanted ≤ n
-Ends RowsFull wanted n places queued rest = (n < wanted) × (places ≤ queued)
-Ends SupplyEmpty wanted n places queued rest = (n < wanted) × (queued < places) × (rest ≡ [])
+abbrev pub EndsRun : RunEnd → (wanted n places queued : ℕ) → List Arrival → Type 0
+EndsRun Wanted wanted n places queued rest = wanted ≤ n
+EndsRun RowsFull wanted n places queued rest = (n < wanted) × (places ≤ queued)
+EndsRun SupplyEmpty wanted n places queued rest = (n < wanted) × (queued < places) × (rest ≡ [])
 
 -- None of the three ends it before a further take: fewer rows than wanted were queued, and the queue has room. That an
 -- arrival is left is said by the take.
@@ -74,7 +74,7 @@ pub record RunsTakes (wanted places : ℕ) (s : RunState) (a : RunAnswer) (t : R
       → GoesOn wanted (length (rows_of xs)) places (length (s.rows ++ rows_of xs))
   pub queued : t.rows ≡ s.rows ++ rows_of taken
   pub counted : a.rows ≡ length (rows_of taken)
-  pub ended : Ends a.end wanted a.rows places (length t.rows) t.supply
+  pub ended : EndsRun a.end wanted a.rows places (length t.rows) t.supply
 
 -- ---- a page
 
