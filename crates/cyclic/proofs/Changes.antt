@@ -1,5 +1,4 @@
 -- With at most four of the 29 bits changed, what is read is what was sent.
---
 use Rattle.std.proofs.Common.{◌≡◌, ℕ, suc, ◌+◌, ◌*◌, ◌/◌, ◌%◌, ◌^◌, ◌<◌, ◌≤◌, Some, None, Option, sym, refl, ap, ◌∙◌, ap₂, inl, inr, add-zero, one-mul, pow-suc, add-one, arith, pow_pos, pow_mono}
 use lib.Arith.{bin_ind}
 use lib.Bits.{bit_and, bit_xor, xor_comm, xor_self, xor_shr, xor_mod, xor_lt, xor_shifted, xor_add_and, and_shr, and_mod}

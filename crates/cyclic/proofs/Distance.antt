@@ -1,5 +1,4 @@
 -- No word of 28 bits but 0, with at most four bits set, has remainder 0: by a test that antt computes over the 28 columns.
---
 use Rattle.std.proofs.Common.{◌≡◌, ℕ, zero, suc, ◌*◌, ◌/◌, ◌%◌, ◌^◌, ◌<◌, ◌≤◌, Bool, true, not, ◌&&◌, eqb, ◌⊎◌, List, [], ◌∷◌, length, sym, refl, ap, ◌∙◌, ap₂, inl, inr, one-mul, pow-suc, zero-add, zero-mul, mul-one, arith}
 use lib.Bits.{bit_xor, xor_assoc, xor_comm, xor_zero_r}
 use lib.Count.{ones, ones_step}

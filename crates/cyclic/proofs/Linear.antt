@@ -1,5 +1,4 @@
 -- The remainder by g is linear, and is the only remainder.
---
 use Rattle.std.proofs.Common.{◌≡◌, ℕ, zero, suc, ◌+◌, ◌-◌, ◌*◌, ◌/◌, ◌%◌, ◌^◌, ◌<◌, ◌≤◌, Bool, true, false, cond, eqb, List, [], ◌∷◌, sym, refl, ap, ◌∙◌, subst, ap₂, inl, inr, le_refl, add-zero, zero-add, zero-mul, arith, lit<}
 use native.Mathlib.Decide.{le_ind}
 use native.Mathlib.Nat.{div-eq_of_lt}

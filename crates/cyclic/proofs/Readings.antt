@@ -1,5 +1,4 @@
 -- A syndrome points at one place at most, and each of the two rules of reading gives one answer for every word.
---
 use Rattle.std.proofs.Common.{◌≡◌, ℕ, zero, suc, ◌^◌, ◌<◌, ◌⊎◌, Some, None, Option, sym, refl, ap, ◌∙◌, ap₂, inl, inr, arith, pow_pos}
 use lib.Bits.{bit_xor, xor_self, xor_lt}
 use lib.Pow.{pow-lt}

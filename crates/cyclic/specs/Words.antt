@@ -1,6 +1,5 @@
 -- The 29 guarded bits of a Rate 1 packet as one number, a word: the 18 guarded code bits, a(x), from bit 11 up, the ten
 -- check bits PCB[10] to PCB[1] at bits 10 to 1, not inverted, and the overall parity bit PCB[0] at bit 0.
---
 use Rattle.std.specs.Prelude.{◌≡◌, ℕ, ◌+◌, ◌*◌, ◌/◌, ◌%◌, ◌^◌, ◌<◌, ◌⊎◌, Some, None, Option, ◌≢◌, bit_xor, count_ones}
 use Rattle.cyclic.specs.Polynomials.{rem}
 

@@ -1,7 +1,8 @@
 -- The codes of a whole frame: its LSP codes, and what its pitch pairs and codebook parameters are encoded to.
-use Rattle.std.specs.Prelude.{◌≡◌, ℕ, ◌<◌, ◌⊎◌, true, List, Result, MatchResult}
+use Rattle.std.specs.Prelude.{◌≡◌, ℕ, ◌⊎◌, List, Result, MatchResult}
 use Rattle.service.specs.declared.rates.Rate.{Rate}
 use Rattle.service.specs.declared.refusals.Refusal.{Refusal}
+use Rattle.service.specs.FirstToFail.{AllPass}
 use Rattle.service.specs.Rates.{rate_is}
 use Rattle.service.specs.Refusals.{Answer, refusal_is}
 use Rattle.packet.specs.declared.codes.CodeNumbers.{CodeNumbers}
@@ -21,12 +22,12 @@ pub record EncodesFrame (rate : Rate) (lsp_codes : List ℕ) (pairs : List (ℕ 
 
 -- the pair of each pitch subframe of the rate is one that codes can stand for
 abbrev pub PitchesAllowed : Rate → List (ℕ × ℕ) → Type 0
-PitchesAllowed rate pairs = (i : ℕ) → i < (rate_is rate).pitch_subframes → pitch_allowed (pair_at pairs i) ≡ true
+PitchesAllowed rate pairs = AllPass (rate_is rate).pitch_subframes (λ i. pitch_allowed (pair_at pairs i))
 
 -- the parameter of each codebook subframe of the rate is one that codes can stand for
 abbrev pub CodebooksAllowed : Rate → List CodebookParameter → Type 0
 CodebooksAllowed rate parameters =
-    (i : ℕ) → i < (rate_is rate).codebook_subframes → codebook_allowed rate (parameter_at parameters i) ≡ true
+    AllPass (rate_is rate).codebook_subframes (λ i. codebook_allowed rate (parameter_at parameters i))
 
 -- refusal 11 of the first pitch subframe that fails, and if none does, 12 of the first codebook subframe
 abbrev pub RefusesFrame : Rate → List (ℕ × ℕ) → List CodebookParameter → Answer → Type 0

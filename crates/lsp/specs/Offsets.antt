@@ -1,6 +1,6 @@
 -- The LSP frequencies that can be sent, and the offsets that are quantized for them (IS-96, A.1.4.3.2.7).
-use Rattle.std.specs.Prelude.{◌≡◌, ℕ, ◌<◌, Bool, true, ◌&&◌, List, ℤ, pos, ◌-ℤ◌, int_le, slice_index_or}
-use Rattle.service.specs.FirstToFail.{RefusedAtFirst}
+use Rattle.std.specs.Prelude.{ℕ, Bool, ◌&&◌, List, ℤ, pos, ◌-ℤ◌, int_le, slice_index_or}
+use Rattle.service.specs.FirstToFail.{AllPass, RefusedAtFirst}
 use Rattle.service.specs.Refusals.{Answer}
 use Rattle.lsp.specs.Decay.{decay}
 use Rattle.lsp.specs.States.{bias}
@@ -20,11 +20,12 @@ frequency_allowed f = int_le (pos 0) f && int_le f max_frequency
 
 -- each of the ten frequencies can be sent
 abbrev pub FrequenciesAllowed : List ℤ → Type 0
-FrequenciesAllowed frequencies = (i : ℕ) → i < 10 → frequency_allowed (frequency_at frequencies i) ≡ true
+FrequenciesAllowed frequencies = AllPass 10 (λ i. frequency_allowed (frequency_at frequencies i))
 
--- refusal 10 of the first LSP whose frequency cannot
+-- refusal 10 of the first of the ten LSPs whose frequency cannot
 abbrev pub RefusesFrequencies : List ℤ → Answer → Type 0
-RefusesFrequencies frequencies answer = RefusedAtFirst 10 10 (λ i. frequency_allowed (frequency_at frequencies i)) answer
+RefusesFrequencies frequencies answer =
+    RefusedAtFirst 10 10 (λ i. frequency_allowed (frequency_at frequencies i)) answer
 
 -- what is quantized, of frequencies and memories: frequency - bias - D(memory)
 abbrev pub offsets : List ℤ → List ℤ → List ℤ

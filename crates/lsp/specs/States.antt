@@ -1,5 +1,4 @@
 -- The ten LSP memories of an end, and the frequencies that they stand for (IS-96, A.1.4.3.2.7 and A.1.4.3.3.1).
---
 use Rattle.std.specs.Prelude.{ℕ, ◌+◌, ◌*◌, ◌<◌, List, ℤ, pos, ◌+ℤ◌, slice_index, slice_index_or, unsigned_abs}
 use Rattle.service.specs.declared.rates.Rate.{Rate}
 use Rattle.lsp.specs.Ten.{ten}

@@ -26,7 +26,8 @@ pub record Within (rate : Rate) (c : CodeNumbers) : Type 0 where
 
 -- the 35 codes of a frame in order
 abbrev pub in_order : CodeNumbers → List ℕ
-in_order c = c.lsp ++ (c.pitch.plag ++ (c.pitch.pgain ++ (c.codebook.cbindex ++ (c.codebook.cbgain ++ (c.cbseed ∷ [])))))
+in_order c =
+    c.lsp ++ (c.pitch.plag ++ (c.pitch.pgain ++ (c.codebook.cbindex ++ (c.codebook.cbgain ++ (c.cbseed ∷ [])))))
 
 -- the 36 codes of a frame in order: these, and PCB
 abbrev pub list_of : CodeNumbers → ℕ → List ℕ

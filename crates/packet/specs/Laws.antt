@@ -51,10 +51,8 @@ OneRecordInEachPacket = (rate : Rate) (bytes : List ℕ) → OneRecord rate byte
 -- packing an unpacked packet returns the packet, if its check bits are right
 abbrev pub PackingReturnsThePacket : Type 0
 PackingReturnsThePacket =
-    (rate :
-    Rate) (bytes : List ℕ) (c : CodeNumbers) → ((j : ℕ)
-    → slice_index bytes j < 256) → Lawful rate bytes → RightPacket rate bytes
-    → Holds rate bytes c → packet rate c ≡ bytes
+    (rate : Rate) (bytes : List ℕ) (c : CodeNumbers) → ((j : ℕ) → slice_index bytes j < 256) → Lawful rate bytes
+    → RightPacket rate bytes → Holds rate bytes c → packet rate c ≡ bytes
 
 -- the guarded bits of a Rate 1 packet as one word: any bytes have a word of 29 bits, its message is a(x) of the codes
 -- that they hold, and the word of the packet of some codes is the one that is sent for their a(x)

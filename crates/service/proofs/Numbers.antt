@@ -1,6 +1,7 @@
 -- What each number stands for, and that it stands for nothing else.
-use Rattle.std.proofs.Common.{◌≡◌, ℕ, zero, suc, ◌-◌, ◌≤◌, Bool, eqb, [], ◌∷◌, get_or, unwrap_or, sym, refl, ap, ◌∙◌, arith, rules}
+use Rattle.std.proofs.Common.{◌≡◌, ℕ, zero, suc, ◌-◌, ◌<◌, ◌≤◌, Bool, false, eqb, [], ◌∷◌, get_or, unwrap_or, sym, refl, ap, ◌∙◌, arith, rules}
 use Rattle.std.proofs.lemmas.Bool.{eqb-true}
+use Rattle.std.proofs.lemmas.Bool.Decides.{nat_tests}
 use Rattle.service.specs.declared.rates.Rate.{Rate}
 use Rattle.service.specs.declared.rates.Rate.TheVariants as rate
 use Rattle.service.specs.declared.categories.Category.{Category}
@@ -17,6 +18,7 @@ use Rattle.service.specs.Rates.{rate_is}
 use Rattle.service.specs.Categories.{category_is, category_of}
 use Rattle.service.specs.Refusals.{Answer, refused, fault_is, refusal_is}
 use Rattle.service.specs.Distinct.{DistinctNumbers}
+use Rattle.service.specs.Tests.{unknown_category}
 use Rattle.service.proofs.Computed.{all_at}
 
 abbrev rate_of : ℕ → Rate
@@ -69,6 +71,19 @@ refusal_of_answer r = search (rules, refusal_of_fault)
 apart : {A B : Type 0} (f : A → B) (g : B → A) → ((x : A) → g (f x) ≡ x) → (x y : A) → f x ≡ f y → x ≡ y
 apart f g back x y e = sym (back x) ∙ ap g e ∙ back y
 
+faults_apart : (a b : Fault) → fault_is a ≡ fault_is b → a ≡ b
+faults_apart a b e =
+    let same : Faulty a ≡ Faulty b = apart refusal_is refusal_of refusal_of_answer (Faulty a) (Faulty b) e in cc
+
+-- the category of each number up to 6 has that number, by a test that is computed
+abbrev category_right : ℕ → Bool
+category_right n = eqb (category_is (category_of n)).number n
+
+named_category : (n : ℕ) → unknown_category n ≡ false → (category_is (category_of n)).number ≡ n
+named_category n known =
+    let low : n < 7 = grind (arith, nat_tests) in
+    eqb-true (category_is (category_of n)).number n (all_at category_right 7 n refl low)
+
 -- the refusal of each number has that number, by a test that is computed
 abbrev numbered_right : ℕ → Bool
 numbered_right m = eqb (refusal_is (refusal_of (refused (suc m)))).number (suc m)
@@ -83,9 +98,11 @@ distinct_numbers = record {
   rates = apart (λ r. (rate_is r).number) rate_of (λ r. search rules);
   categories = apart (λ c. (category_is c).number) category_of category_of_number;
   numbered = λ c. (category_of_number c, search rules);
+  named = named_category;
   letters = apart (λ l. (letter_is l).byte) letter_of (λ l. search rules);
   run_ends = apart run_end_is run_end_of (λ e. search rules);
   refusals = apart refusal_is refusal_of refusal_of_answer;
+  faults_apart = faults_apart;
   every = every_number;
   only = λ r. search rules;
   places = λ r. search rules;

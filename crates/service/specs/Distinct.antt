@@ -19,11 +19,14 @@ pub record DistinctNumbers : Type 0 where
   -- each category is the one that its number stands for, and passes the test of the number
   pub numbered :
       (c : Category) → (category_of (category_is c).number ≡ c) × (unknown_category (category_is c).number ≡ false)
+  -- each number that passes the test is that of its category
+  pub named : (n : ℕ) → unknown_category n ≡ false → (category_is (category_of n)).number ≡ n
   -- no two letters are printed by one byte, and no two ends of a run have one number
   pub letters : (a b : Letter) → (letter_is a).byte ≡ (letter_is b).byte → a ≡ b
   pub run_ends : (a b : RunEnd) → run_end_is a ≡ run_end_is b → a ≡ b
-  -- no two refusals have one number and one place
+  -- no two refusals, and so no two faults, have one number and one place
   pub refusals : (a b : Refusal) → refusal_is a ≡ refusal_is b → a ≡ b
+  pub faults_apart : (a b : Fault) → fault_is a ≡ fault_is b → a ≡ b
   -- each number from 1 to 18 has a refusal, and each refusal has such a number
   pub every : (n : ℕ) → 1 ≤ n → n ≤ 18 → (r : Refusal) × ((refusal_is r).number ≡ n)
   pub only : (r : Refusal) → (1 ≤ (refusal_is r).number) × ((refusal_is r).number ≤ 18)

@@ -3,6 +3,10 @@
 use Rattle.std.specs.Prelude.{◌≡◌, ℕ, ◌+◌, ◌<◌, Bool, true, false}
 use Rattle.service.specs.Refusals.{Answer, refused_at}
 
+-- each of so many items passes
+abbrev pub AllPass : ℕ → (ℕ → Bool) → Type 0
+AllPass items passes = (i : ℕ) → i < items → passes i ≡ true
+
 -- of so many items, the one at index i is the first that does not pass
 pub record FirstToFail (items : ℕ) (passes : ℕ → Bool) (i : ℕ) : Type 0 where
   pub within : i < items

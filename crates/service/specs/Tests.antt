@@ -1,6 +1,5 @@
 -- The tests that a category, a length and a packet's bytes have to pass wherever they come from. A test that is true
 -- fails.
---
 use Rattle.std.specs.Prelude.{ℕ, ◌-◌, ◌*◌, ◌%◌, ◌^◌, Bool, not, List, ◌==◌, nat_lt, slice_index}
 use Rattle.service.specs.declared.categories.Category.{Category}
 use Rattle.service.specs.Categories.{category_is}
