@@ -110,23 +110,23 @@ pub record Bytes (n : ℕ) (xs : List ℕ) : Type 0 where
   pub fit : (i : ℕ) → get_or xs i 0 < 256
 
 abbrev made : (lsp plag pgain cbindex cbgain : List ℕ) (cbseed : ℕ) → CodeNumbers
-made a b c d e f = record { lsp = a; plag = b; pgain = c; cbindex = d; cbgain = e; cbseed = f }
+made a b c d e f = record { lsp = a; pitch = record { plag = b; pgain = c }; codebook = record { cbindex = d; cbgain = e }; cbseed = f }
 
-same_numbers : {c d : CodeNumbers} → c.lsp ≡ d.lsp → c.plag ≡ d.plag → c.pgain ≡ d.pgain → c.cbindex ≡ d.cbindex → c.cbgain ≡ d.cbgain → c.cbseed ≡ d.cbseed → c ≡ d
+same_numbers : {c d : CodeNumbers} → c.lsp ≡ d.lsp → c.pitch.plag ≡ d.pitch.plag → c.pitch.pgain ≡ d.pitch.pgain → c.codebook.cbindex ≡ d.codebook.cbindex → c.codebook.cbgain ≡ d.codebook.cbgain → c.cbseed ≡ d.cbseed → c ≡ d
 same_numbers {c} {d} e1 e2 e3 e4 e5 e6 =
-    let same : made c.lsp c.plag c.pgain c.cbindex c.cbgain c.cbseed ≡ made d.lsp d.plag d.pgain d.cbindex d.cbgain d.cbseed = cc in
+    let same : made c.lsp c.pitch.plag c.pitch.pgain c.codebook.cbindex c.codebook.cbgain c.cbseed ≡ made d.lsp d.pitch.plag d.pitch.pgain d.codebook.cbindex d.codebook.cbgain d.cbseed = cc in
     same
 
-module _ (c : CodeNumbers) (lsp : Bytes 10 c.lsp) (plag : Bytes 4 c.plag) (pgain : Bytes 4 c.pgain) (cbindex : Bytes 8 c.cbindex) (cbgain : Bytes 8 c.cbgain)
+module _ (c : CodeNumbers) (lsp : Bytes 10 c.lsp) (plag : Bytes 4 c.pitch.plag) (pgain : Bytes 4 c.pitch.pgain) (cbindex : Bytes 8 c.codebook.cbindex) (cbgain : Bytes 8 c.codebook.cbgain)
     (cbseed : c.cbseed < 256) where
   row_fits : All (λ n. n < 256) (in_order c)
   row_fits =
       let each = λ (xs : List ℕ) (f : (i : ℕ) → get_or xs i 0 < 256). All-from_get_or (λ n. n < 256) xs 0 (λ i l. f i) in
       All-append (λ n. n < 256) c.lsp _ (each c.lsp lsp.fit)
-      (All-append (λ n. n < 256) c.plag _ (each c.plag plag.fit)
-      (All-append (λ n. n < 256) c.pgain _ (each c.pgain pgain.fit)
-      (All-append (λ n. n < 256) c.cbindex _ (each c.cbindex cbindex.fit)
-      (All-append (λ n. n < 256) c.cbgain _ (each c.cbgain cbgain.fit)
+      (All-append (λ n. n < 256) c.pitch.plag _ (each c.pitch.plag plag.fit)
+      (All-append (λ n. n < 256) c.pitch.pgain _ (each c.pitch.pgain pgain.fit)
+      (All-append (λ n. n < 256) c.codebook.cbindex _ (each c.codebook.cbindex cbindex.fit)
+      (All-append (λ n. n < 256) c.codebook.cbgain _ (each c.codebook.cbgain cbgain.fit)
       (All-cons (λ n. n < 256) c.cbseed [] cbseed (All-nil (λ n. n < 256)))))))
 
   row_length : length (in_order c) ≡ 35
@@ -136,26 +136,26 @@ module _ (c : CodeNumbers) (lsp : Bytes 10 c.lsp) (plag : Bytes 4 c.plag) (pgain
   row_again =
       let row = in_order c in
       let t5 = c.cbseed ∷ [] in
-      let t4 = c.cbgain ++ t5 in
-      let t3 = c.cbindex ++ t4 in
-      let t2 = c.pgain ++ t3 in
-      let f2 = c.lsp ++ c.plag in
-      let f3 = f2 ++ c.pgain in
-      let f4 = f3 ++ c.cbindex in
-      let f5 = f4 ++ c.cbgain in
-      let r2 : row ≡ f2 ++ t2 = sym (append_assoc c.lsp c.plag t2) in
-      let r3 : row ≡ f3 ++ t3 = r2 ∙ sym (append_assoc f2 c.pgain t3) in
-      let r4 : row ≡ f4 ++ t4 = r3 ∙ sym (append_assoc f3 c.cbindex t4) in
-      let r5 : row ≡ f5 ++ t5 = r4 ∙ sym (append_assoc f4 c.cbgain t5) in
-      let l2 : length f2 ≡ 14 = omega (arith, length-append c.lsp c.plag, lsp.long, plag.long) in
-      let l3 : length f3 ≡ 18 = omega (arith, length-append f2 c.pgain, pgain.long) in
-      let l4 : length f4 ≡ 26 = omega (arith, length-append f3 c.cbindex, cbindex.long) in
-      let l5 : length f5 ≡ 34 = omega (arith, length-append f4 c.cbgain, cbgain.long) in
-      let e1 : take 10 (drop 0 row) ≡ c.lsp = part_is [] c.lsp (c.plag ++ t2) row 0 10 refl refl lsp.long in
-      let e2 : take 4 (drop 10 row) ≡ c.plag = part_is c.lsp c.plag t2 row 10 4 refl lsp.long plag.long in
-      let e3 : take 4 (drop 14 row) ≡ c.pgain = part_is f2 c.pgain t3 row 14 4 r2 l2 pgain.long in
-      let e4 : take 8 (drop 18 row) ≡ c.cbindex = part_is f3 c.cbindex t4 row 18 8 r3 l3 cbindex.long in
-      let e5 : take 8 (drop 26 row) ≡ c.cbgain = part_is f4 c.cbgain t5 row 26 8 r4 l4 cbgain.long in
+      let t4 = c.codebook.cbgain ++ t5 in
+      let t3 = c.codebook.cbindex ++ t4 in
+      let t2 = c.pitch.pgain ++ t3 in
+      let f2 = c.lsp ++ c.pitch.plag in
+      let f3 = f2 ++ c.pitch.pgain in
+      let f4 = f3 ++ c.codebook.cbindex in
+      let f5 = f4 ++ c.codebook.cbgain in
+      let r2 : row ≡ f2 ++ t2 = sym (append_assoc c.lsp c.pitch.plag t2) in
+      let r3 : row ≡ f3 ++ t3 = r2 ∙ sym (append_assoc f2 c.pitch.pgain t3) in
+      let r4 : row ≡ f4 ++ t4 = r3 ∙ sym (append_assoc f3 c.codebook.cbindex t4) in
+      let r5 : row ≡ f5 ++ t5 = r4 ∙ sym (append_assoc f4 c.codebook.cbgain t5) in
+      let l2 : length f2 ≡ 14 = omega (arith, length-append c.lsp c.pitch.plag, lsp.long, plag.long) in
+      let l3 : length f3 ≡ 18 = omega (arith, length-append f2 c.pitch.pgain, pgain.long) in
+      let l4 : length f4 ≡ 26 = omega (arith, length-append f3 c.codebook.cbindex, cbindex.long) in
+      let l5 : length f5 ≡ 34 = omega (arith, length-append f4 c.codebook.cbgain, cbgain.long) in
+      let e1 : take 10 (drop 0 row) ≡ c.lsp = part_is [] c.lsp (c.pitch.plag ++ t2) row 0 10 refl refl lsp.long in
+      let e2 : take 4 (drop 10 row) ≡ c.pitch.plag = part_is c.lsp c.pitch.plag t2 row 10 4 refl lsp.long plag.long in
+      let e3 : take 4 (drop 14 row) ≡ c.pitch.pgain = part_is f2 c.pitch.pgain t3 row 14 4 r2 l2 pgain.long in
+      let e4 : take 8 (drop 18 row) ≡ c.codebook.cbindex = part_is f3 c.codebook.cbindex t4 row 18 8 r3 l3 cbindex.long in
+      let e5 : take 8 (drop 26 row) ≡ c.codebook.cbgain = part_is f4 c.codebook.cbgain t5 row 26 8 r4 l4 cbgain.long in
       let e6 : get_or row 34 0 ≡ c.cbseed = ap (λ l. get_or l 34 0) r5 ∙ get_or_at f5 c.cbseed [] 0 34 l5 in
       same_numbers e1 e2 e3 e4 e5 e6
 

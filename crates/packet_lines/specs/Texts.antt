@@ -1,5 +1,5 @@
 -- What is printed of codes, of a packet and of an unreadable line, byte by byte.
-use Rattle.std.specs.Prelude.{ℕ, List, [], ◌∷◌, ◌++◌, codes, decimal, drop, map}
+use Rattle.std.specs.Prelude.{ℕ, List, [], ◌∷◌, ◌++◌, codes, decimal, map}
 use Rattle.std.specs.List.{flat_map, join_with_byte}
 use Rattle.hex.specs.Hex.{encode_lower}
 use Rattle.packet.specs.declared.codes.CodeNumbers.{CodeNumbers}
@@ -16,12 +16,6 @@ spaced ns = flat_map (λ n. codes " " ++ decimal n) ns
 -- the 35 codes in decimal and in order, with one space between
 abbrev pub codes_text : CodeNumbers → List ℕ
 codes_text c = join_with_byte 32 (map decimal (in_order c))
-
--- the same but for the first, name by name
-abbrev pub others_text : CodeNumbers → List ℕ
-others_text c =
-    spaced (drop 1 c.lsp)
-    ++ (spaced c.plag ++ (spaced c.pgain ++ (spaced c.cbindex ++ (spaced c.cbgain ++ (codes " " ++ decimal c.cbseed)))))
 
 -- two digits for each byte, and a hyphen for none
 abbrev pub packet_text : List ℕ → List ℕ

@@ -1,14 +1,12 @@
 //! What a line asks for.
-ghost use Rattle.std.specs.Prelude.{◌≡◌, ℕ, true, ◌+◌, ◌≤◌, IfOk, Ok, map, length, take, drop, vec_len};
+ghost use Rattle.std.specs.Prelude.{◌≡◌, true, IfOk, map, length, vec_len};
 ghost use Rattle.std.specs.Str.{all_ascii_digits};
 ghost use Rattle.std.specs.Str.Lines.{strip_carriage_return};
-ghost use Rattle.packet.specs.Codes.{numbers_of};
 ghost use Rattle.packet_lines.specs.Reading.{Gives, asked, number, numbers, pack_words, packet_bytes, reading, request_of, unpack_words, words};
 
 use crate::reasons::{ReadError, Unreadable};
 use hex::FromHexError;
 use packet::CodeNumbers;
-use packet_layout::CodeName;
 use std::alloc::{AllocError, Global};
 
 /// What a line asks for.
@@ -22,17 +20,6 @@ pub enum Request {
 
 // Behind `pack` stand the rate and the codes.
 const PACK_NUMBERS: usize = 36;
-
-// Where the codes of each name begin.
-const PLAG: usize = CodeName::Plag as usize;
-
-const PGAIN: usize = CodeName::Pgain as usize;
-
-const CBINDEX: usize = CodeName::Cbindex as usize;
-
-const CBGAIN: usize = CodeName::Cbgain as usize;
-
-const CBSEED: usize = CodeName::Cbseed as usize;
 
 /// What a line asks for, or why it asks for nothing. A carriage return at its end is not looked at.
 pub fn read_line(heap: Global, line: &[u8]) -> Result<Request, ReadError>
@@ -85,7 +72,7 @@ fn read_pack(heap: Global, words: &[&[u8]]) -> Result<Request, ReadError>
     let values = numbers(heap, words)?;
     Ok(Request::Pack {
         rate: values[0],
-        numbers: code_numbers(&values[1..]),
+        numbers: CodeNumbers::from_order(values[1..].try_into().unwrap()),
     })
 }
 
@@ -140,29 +127,6 @@ fn numbers(heap: Global, words: &[&[u8]]) -> Result<Vec<u8>, ReadError>
         values.push(number(word)?)?;
     }
     Ok(values)
-}
-
-// The codes that stand in order.
-fn code_numbers(codes: &[u8]) -> CodeNumbers
-    requires { length codes.now ≡ 35 }
-    ensures { result ≡ numbers_of codes.now }
-{
-    CodeNumbers {
-        lsp: part(codes, 0),
-        plag: part(codes, PLAG),
-        pgain: part(codes, PGAIN),
-        cbindex: part(codes, CBINDEX),
-        cbgain: part(codes, CBGAIN),
-        cbseed: codes[CBSEED],
-    }
-}
-
-// N codes, from a place on.
-fn part<const N: usize>(codes: &[u8], from: usize) -> [u8; N]
-    requires { from + N ≤ length codes.now }
-    ensures { result ≡ take N (drop from codes.now) }
-{
-    codes[from..from + N].try_into().unwrap()
 }
 
 // The bytes of a packet that a word is.
