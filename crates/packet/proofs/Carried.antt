@@ -29,12 +29,12 @@ carried_none rate list k e = ap (value list) e
 pub index_lt : (rate : Rate) (k : ℕ) (c : CodeBit) → EachCodeBitOnce rate (layout rate) → at (layout rate) k ≡ Some c → index c < 36
 index_lt rate k c law e = has_index_lt rate c (law.carried k c e)
 
-pub number_of_bit_lt : (rate : Rate) (k : ℕ) (c : CodeBit) → EachCodeBitOnce rate (layout rate) → at (layout rate) k ≡ Some c → c.2 < 11
+pub number_of_bit_lt : (rate : Rate) (k : ℕ) (c : CodeBit) → EachCodeBitOnce rate (layout rate) → at (layout rate) k ≡ Some c → c.bit < 11
 number_of_bit_lt rate k c law e = has_bit_lt rate c (law.carried k c e)
 
 pub value_lt : (list : List ℕ) (o : Option CodeBit) → value list o < 2
 value_lt list None = omega arith
-value_lt list (Some c) = bit_lt (slice_index list (index c)) c.2
+value_lt list (Some c) = bit_lt (slice_index list (index c)) c.bit
 
 pub carried_lt : (rate : Rate) (list : List ℕ) (k : ℕ) → carried rate list k < 2
 unfolding carried

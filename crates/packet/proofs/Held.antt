@@ -28,7 +28,7 @@ not_carried rate n name i b h above (k, (c, (less, (e, (ei, eb))))) =
     let has : Has rate c = (at_each_rate rate).carried k c e in
     let at_i : index c ≡ first name + (i + 1) - 1 = omega (arith, ei) in
     let is : c ≡ code_bit name (i + 1) b =
-    sym (back rate c has) ∙ ap (λ s. code_at s c.2) at_i ∙ ap (code_at (first name + (i + 1) - 1)) eb ∙ named name (i + 1) b (omega arith) (omega arith) in
+    sym (back rate c has) ∙ ap (λ s. code_at s c.bit) at_i ∙ ap (code_at (first name + (i + 1) - 1)) eb ∙ named name (i + 1) b (omega arith) (omega arith) in
     let this : Has rate (code_bit name (i + 1) b) = subst (Has rate) is has in
     let inside : i < count rate name = omega (arith, this.to) in
     let w : bits_at rate name i ≡ width rate name = cond-true (nat_lt i (count rate name)) (width rate name) 0 (lt-ltb i (count rate name) inside) in
@@ -75,12 +75,12 @@ module _ (rate : Rate) (packet list : List ℕ) (r : HoldsBits rate (rate_is rat
     cbseed = seed_fits;
   }
 
-  read_bits : (k : ℕ) (b : CodeBit) → at (layout rate) k ≡ Some b → b.0 ≢ Pcb → value (in_order (numbers_of list)) (Some b) ≡ bit_at packet k
+  read_bits : (k : ℕ) (b : CodeBit) → at (layout rate) k ≡ Some b → b.name ≢ Pcb → value (in_order (numbers_of list)) (Some b) ≡ bit_at packet k
   read_bits k b e other =
       let law = at_each_rate rate in
       let front : in_order (numbers_of list) ≡ take 35 list = list_again list (numbers_of list) r.size refl refl refl refl refl refl in
       let less : index b < 35 = index_lt_pcb rate b (law.carried k b e) other in
-      ap (λ xs. value xs (Some b)) front ∙ ap (λ n. bit n b.2) (get_or-take 35 list (index b) 0 less)
+      ap (λ xs. value xs (Some b)) front ∙ ap (λ n. bit n b.bit) (get_or-take 35 list (index b) 0 less)
       ∙ r.bits k b (omega (arith, place_lt (layout rate) k b e, law.bits)) e
 
 pub read_holds : (rate : Rate) (packet list : List ℕ) → ReadsTo rate (rate_is rate).bits packet list → Holds rate packet (numbers_of list)

@@ -45,7 +45,7 @@ module _ (list : List ℕ) where
 pub guarded_index : (i : ℕ) (c : CodeBit) → slice_get guarded_code_bits i ≡ Some c → index c < 36
 guarded_index i c e = index_lt Full c (guarded_have i c e)
 
-pub guarded_number : (i : ℕ) (c : CodeBit) → slice_get guarded_code_bits i ≡ Some c → c.2 < 11
+pub guarded_number : (i : ℕ) (c : CodeBit) → slice_get guarded_code_bits i ≡ Some c → c.bit < 11
 guarded_number i c e = bit_lt Full c (guarded_have i c e)
 
 -- PCB has no part in a(x)
@@ -70,7 +70,7 @@ number_same f g same (suc n) = ap₂ (λ a b. a * 2 + b) (number_same f g same n
 
 value_front : (codes rest : List ℕ) (o : Option CodeBit) → ((c : CodeBit) → o ≡ Some c → index c < length codes) → value (codes ++ rest) o ≡ value codes o
 value_front codes rest None less = refl
-value_front codes rest (Some c) less = ap (λ n. bit n c.2) (get_or_append_left codes rest 0 (index c) (less c refl))
+value_front codes rest (Some c) less = ap (λ n. bit n c.bit) (get_or_append_left codes rest 0 (index c) (less c refl))
 
 message_of_front : (codes rest : List ℕ) → length codes ≡ 35 → message_of (codes ++ rest) ≡ message_of codes
 unfolding message_of

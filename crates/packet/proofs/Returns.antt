@@ -39,17 +39,17 @@ has_bit rate name i b h =
     ]
 
 -- a code bit but PCB's is the same whatever PCB is
-pub value_of_codes : (rate : Rate) (c : CodeNumbers) (pcb : ℕ) → Sized c → (b : CodeBit) → Has rate b → b.0 ≢ Pcb
+pub value_of_codes : (rate : Rate) (c : CodeNumbers) (pcb : ℕ) → Sized c → (b : CodeBit) → Has rate b → b.name ≢ Pcb
     → value (list_of c pcb) (Some b) ≡ value (in_order c) (Some b)
 value_of_codes rate c pcb size b has other =
-    ap (λ n. bit n b.2) (get_or_append_left (in_order c) (pcb ∷ []) 0 (index b) (omega (arith, in_order_length c size, index_lt_pcb rate b has other)))
+    ap (λ n. bit n b.bit) (get_or_append_left (in_order c) (pcb ∷ []) 0 (index b) (omega (arith, in_order_length c size, index_lt_pcb rate b has other)))
 
 -- the bits of a packet fit its bytes
 pub room : (rate : Rate) → (rate_is rate).bits ≤ 8 * (rate_is rate).bytes
 room rate = elim rate as (λ r. (rate_is r).bits ≤ 8 * (rate_is r).bytes) [ Full ↦ omega arith | Half ↦ omega arith | Quarter ↦ omega arith | Eighth ↦ omega arith ]
 
 -- each code bit that the packet carries is that of the codes
-pub packet_holds : (rate : Rate) (c : CodeNumbers) → Sized c → (k : ℕ) (b : CodeBit) → at (layout rate) k ≡ Some b → b.0 ≢ Pcb
+pub packet_holds : (rate : Rate) (c : CodeNumbers) → Sized c → (k : ℕ) (b : CodeBit) → at (layout rate) k ≡ Some b → b.name ≢ Pcb
     → value (in_order c) (Some b) ≡ bit_at (packet rate c) k
 packet_holds rate c size k b e other =
     let law = at_each_rate rate in

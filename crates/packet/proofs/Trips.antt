@@ -71,12 +71,12 @@ module _ (rate : Rate) (bytes : List ℕ) (c : CodeNumbers) (size : Sized c) (ho
       let pcb = pcb_of rate c in
       elim (cases_lt (index b) 35) [
         | inl less ↦
-            let other : b.0 ≢ Pcb = λ is. let f = ap first is in omega (arith, has.from, less) in
+            let other : b.name ≢ Pcb = λ is. let f = ap first is in omega (arith, has.from, less) in
             value_of_codes rate c pcb size b has other ∙ holds.bits k b e other
         | inr past ↦
-            let is : b ≡ code_bit Pcb 1 b.2 = last_is_pcb rate b has past in
-            ap (λ x. value (list_of c pcb) (Some x)) is ∙ ap (λ n. bit n b.2) (list_pcb c pcb size)
-            ∙ pcb_here rate bytes c size holds right k b.2 (e ∙ ap Some is)
+            let is : b ≡ code_bit Pcb 1 b.bit = last_is_pcb rate b has past in
+            ap (λ x. value (list_of c pcb) (Some x)) is ∙ ap (λ n. bit n b.bit) (list_pcb c pcb size)
+            ∙ pcb_here rate bytes c size holds right k b.bit (e ∙ ap Some is)
       ]
 
   place_here : (k : ℕ) (o : Option CodeBit) → k < 8 * (rate_is rate).bytes → at (layout rate) k ≡ o → value (list_of c (pcb_of rate c)) o ≡ bit_at bytes k

@@ -18,7 +18,7 @@ bit_at bytes k = bit (slice_index bytes (k / 8)) (7 - k % 8)
 -- a code bit of the codes of a frame in order; 0 for none
 abbrev pub value : List ℕ → Option CodeBit → ℕ
 value list None = 0
-value list (Some c) = bit (slice_index list (index c)) c.2
+value list (Some c) = bit (slice_index list (index c)) c.bit
 
 -- what a place of the packet of these codes carries; 0 at a spare place
 unfoldable pub carried : Rate → List ℕ → ℕ → ℕ

@@ -45,7 +45,7 @@ Packs number c before after r =
 pub record Holds (rate : Rate) (packet : List ℕ) (c : CodeNumbers) : Type 0 where
   pub within : Within rate c
   pub bits :
-      (k : ℕ) (b : CodeBit) → at (layout rate) k ≡ Some b → b.0 ≢ Pcb → value (in_order c) (Some b) ≡ bit_at packet k
+      (k : ℕ) (b : CodeBit) → at (layout rate) k ≡ Some b → b.name ≢ Pcb → value (in_order c) (Some b) ≡ bit_at packet k
 
 -- the packet has the length of its rate, and its spare bits are zero
 pub record Lawful (rate : Rate) (bytes : List ℕ) : Type 0 where

@@ -9,7 +9,7 @@ use Rattle.packet.specs.Bits.{bit, bit_at, value}
 -- a place of the packet before n carries bit b of the code at index s
 abbrev pub CarriedBefore : Rate → ℕ → ℕ → ℕ → Type 0
 CarriedBefore rate n s b =
-    (k : ℕ) × ((c : CodeBit) × ((k < n) × ((at (layout rate) k ≡ Some c) × ((index c ≡ s) × (c.2 ≡ b)))))
+    (k : ℕ) × ((c : CodeBit) × ((k < n) × ((at (layout rate) k ≡ Some c) × ((index c ≡ s) × (c.bit ≡ b)))))
 
 -- the 36 codes that the first n places of a packet hold: each code bit that they carry is the packet's, and all other
 -- bits of the codes are zero

@@ -7,29 +7,28 @@ ghost use Rattle.packet.specs.CheckBits.{message_of, transmitted};
 use crate::kinds::code_bit_at;
 use crate::lists::{CodeList, bit};
 use cyclic::Message;
-use packet_layout::CodeBit;
-use packet_layout::CodeName::{Cbgain, Lsp};
+use packet_layout::{CodeBit, code_bit};
 
 // The guarded code bits, from x^17 of a(x) down to x^0.
 const GUARDED: [CodeBit; 18] = [
-    CodeBit(Lsp, 1, 3),
-    CodeBit(Lsp, 2, 3),
-    CodeBit(Lsp, 3, 3),
-    CodeBit(Lsp, 4, 3),
-    CodeBit(Lsp, 5, 3),
-    CodeBit(Lsp, 6, 3),
-    CodeBit(Lsp, 7, 3),
-    CodeBit(Lsp, 8, 3),
-    CodeBit(Lsp, 9, 3),
-    CodeBit(Lsp, 10, 3),
-    CodeBit(Cbgain, 1, 1),
-    CodeBit(Cbgain, 2, 1),
-    CodeBit(Cbgain, 3, 1),
-    CodeBit(Cbgain, 4, 1),
-    CodeBit(Cbgain, 5, 1),
-    CodeBit(Cbgain, 6, 1),
-    CodeBit(Cbgain, 7, 1),
-    CodeBit(Cbgain, 8, 1),
+    code_bit!(Lsp, 1, 3),
+    code_bit!(Lsp, 2, 3),
+    code_bit!(Lsp, 3, 3),
+    code_bit!(Lsp, 4, 3),
+    code_bit!(Lsp, 5, 3),
+    code_bit!(Lsp, 6, 3),
+    code_bit!(Lsp, 7, 3),
+    code_bit!(Lsp, 8, 3),
+    code_bit!(Lsp, 9, 3),
+    code_bit!(Lsp, 10, 3),
+    code_bit!(Cbgain, 1, 1),
+    code_bit!(Cbgain, 2, 1),
+    code_bit!(Cbgain, 3, 1),
+    code_bit!(Cbgain, 4, 1),
+    code_bit!(Cbgain, 5, 1),
+    code_bit!(Cbgain, 6, 1),
+    code_bit!(Cbgain, 7, 1),
+    code_bit!(Cbgain, 8, 1),
 ];
 
 // How many bits PCB has.

@@ -19,10 +19,10 @@ const PCB: usize = CodeName::Pcb as usize;
 /// A code bit of the list.
 pub(crate) fn bit(list: &CodeList, c: CodeBit) -> u8
     requires code { index c < 36 }
-    requires number { c.2 < 16 }
+    requires bit_number { c.bit < 16 }
     ensures { result ≡ value list.now (Some c) }
 {
-    (list[c.index()] >> c.2 & 1) as u8
+    (list[c.index()] >> c.bit & 1) as u8
 }
 
 // The list of a frame's codes and of PCB.

@@ -57,11 +57,11 @@ fn bit_at(packet: &[u8], place: usize) -> u8
 #[tactic(auto, using(crate::proofs::Numbers::shifted_whole))]
 fn mark(list: &mut CodeList, c: CodeBit, bit: u8)
     requires code { index c < 36 }
-    requires number { c.2 < 16 }
+    requires bit_number { c.bit < 16 }
     requires bit { bit < 2 }
-    ensures { list.new ≡ slice_set list.old (index c) (bit_or (slice_index list.old (index c)) (bit * 2 ^ c.2)) }
+    ensures { list.new ≡ slice_set list.old (index c) (bit_or (slice_index list.old (index c)) (bit * 2 ^ c.bit)) }
 {
-    list[c.index()] |= u16::from(bit) << c.2;
+    list[c.index()] |= u16::from(bit) << c.bit;
 }
 
 // Reads one place more.

@@ -60,11 +60,11 @@ named Cbseed n b h l = grind (arith)
 named Pcb n b h l = grind (arith)
 
 -- a code bit of the rate is the one at its index and its bit, so no other has both
-pub back : (rate : Rate) (c : CodeBit) → Has rate c → code_at (index c) c.2 ≡ c
-back rate c h = named c.0 c.1 c.2 h.from (omega (arith, h.to, count_most rate c.0))
+pub back : (rate : Rate) (c : CodeBit) → Has rate c → code_at (index c) c.bit ≡ c
+back rate c h = named c.name c.number c.bit h.from (omega (arith, h.to, count_most rate c.name))
 
-pub same : (rate : Rate) (c d : CodeBit) → Has rate c → Has rate d → index c ≡ index d → c.2 ≡ d.2 → c ≡ d
-same rate c d hc hd ei eb = sym (back rate c hc) ∙ ap (λ s. code_at s c.2) ei ∙ ap (λ b. code_at (index d) b) eb ∙ back rate d hd
+pub same : (rate : Rate) (c d : CodeBit) → Has rate c → Has rate d → index c ≡ index d → c.bit ≡ d.bit → c ≡ d
+same rate c d hc hd ei eb = sym (back rate c hc) ∙ ap (λ s. code_at s c.bit) ei ∙ ap (λ b. code_at (index d) b) eb ∙ back rate d hd
 
 -- each code of a rate is one of the 36
 pub below : (name : CodeName) (n : ℕ) → n ≤ most name → first name + n - 1 < 36
@@ -77,7 +77,7 @@ below Cbseed n l = omega arith
 below Pcb n l = omega arith
 
 pub index_lt : (rate : Rate) (c : CodeBit) → Has rate c → index c < 36
-index_lt rate c h = below c.0 c.1 (omega (arith, h.to, count_most rate c.0))
+index_lt rate c h = below c.name c.number (omega (arith, h.to, count_most rate c.name))
 
 narrow : (rate : Rate) (name : CodeName) → width rate name ≤ 11
 narrow Full Lsp = omega arith
@@ -104,12 +104,12 @@ below_pcb Cbgain n other l = omega arith
 below_pcb Cbseed n other l = omega arith
 below_pcb Pcb n other l = absurd (other refl)
 
-pub index_lt_pcb : (rate : Rate) (c : CodeBit) → Has rate c → (c.0 ≡ Pcb → ⊥) → index c < 35
-index_lt_pcb rate c h other = below_pcb c.0 c.1 other (omega (arith, h.to, count_most rate c.0))
+pub index_lt_pcb : (rate : Rate) (c : CodeBit) → Has rate c → (c.name ≡ Pcb → ⊥) → index c < 35
+index_lt_pcb rate c h other = below_pcb c.name c.number other (omega (arith, h.to, count_most rate c.name))
 
 -- and no bit of one has a number above 10
-pub bit_lt : (rate : Rate) (c : CodeBit) → Has rate c → c.2 < 11
-bit_lt rate c h = omega (arith, h.bit, narrow rate c.0)
+pub bit_lt : (rate : Rate) (c : CodeBit) → Has rate c → c.bit < 11
+bit_lt rate c h = omega (arith, h.bit, narrow rate c.name)
 
 -- and, but for PCB, none above 6
 narrower : (rate : Rate) (name : CodeName) (n : ℕ) → 1 ≤ n → first name + n - 1 < 35 → width rate name ≤ 7
@@ -127,8 +127,8 @@ narrower Eighth Cbgain n f l = omega arith
 narrower rate Cbseed n f l = omega arith
 narrower rate Pcb n f l = absurd (omega arith)
 
-pub bit_lt_code : (rate : Rate) (c : CodeBit) → Has rate c → index c < 35 → c.2 < 7
-bit_lt_code rate c h l = omega (arith, h.bit, narrower rate c.0 c.1 h.from l)
+pub bit_lt_code : (rate : Rate) (c : CodeBit) → Has rate c → index c < 35 → c.bit < 7
+bit_lt_code rate c h l = omega (arith, h.bit, narrower rate c.name c.number h.from l)
 
 -- the last of the 36 is PCB
 last : (name : CodeName) (n b : ℕ) → 1 ≤ n → n ≤ most name → 35 ≤ first name + n - 1 → code_bit name n b ≡ code_bit Pcb 1 b
@@ -140,5 +140,5 @@ last Cbgain n b f l h = absurd (omega arith)
 last Cbseed n b f l h = absurd (omega arith)
 last Pcb n b f l h = let e : n ≡ 1 = omega arith in ap (λ m. code_bit Pcb m b) e
 
-pub last_is_pcb : (rate : Rate) (c : CodeBit) → Has rate c → 35 ≤ index c → c ≡ code_bit Pcb 1 c.2
-last_is_pcb rate c h l = last c.0 c.1 c.2 h.from (omega (arith, h.to, count_most rate c.0)) l
+pub last_is_pcb : (rate : Rate) (c : CodeBit) → Has rate c → 35 ≤ index c → c ≡ code_bit Pcb 1 c.bit
+last_is_pcb rate c h l = last c.name c.number c.bit h.from (omega (arith, h.to, count_most rate c.name)) l

@@ -15,16 +15,16 @@ use Rattle.packet_layout.proofs.Names.{same}
 -- whether bit b of the code at index s stands somewhere
 abbrev pub stands : ℕ → ℕ → List CodeBit → Bool
 stands s b [] = false
-stands s b (c ∷ cs) = (nat_eq (index c) s && nat_eq c.2 b) || stands s b cs
+stands s b (c ∷ cs) = (nat_eq (index c) s && nat_eq c.bit b) || stands s b cs
 
 -- whether no code bit stands twice
 abbrev pub distinct : List CodeBit → Bool
 distinct [] = true
-distinct (c ∷ cs) = not (stands (index c) c.2 cs) && distinct cs
+distinct (c ∷ cs) = not (stands (index c) c.bit cs) && distinct cs
 
 -- whether all are code bits of the rate
 abbrev has : Rate → CodeBit → Bool
-has rate c = nat_lt 0 c.1 && (nat_lt c.1 (suc (count rate c.0)) && nat_lt c.2 (width rate c.0))
+has rate c = nat_lt 0 c.number && (nat_lt c.number (suc (count rate c.name)) && nat_lt c.bit (width rate c.name))
 
 abbrev pub all_of : Rate → List CodeBit → Bool
 all_of rate [] = true
@@ -71,12 +71,12 @@ pub none_some : (c : CodeBit) → None ≡ Some c → ⊥
 none_some c e = false≢true (ap is_some e)
 
 -- what stands somewhere has a place
-somewhere : (s b : ℕ) (places : List CodeBit) → stands s b places ≡ true → (k : ℕ) × ((c : CodeBit) × ((at places k ≡ Some c) × ((index c ≡ s) × (c.2 ≡ b))))
+somewhere : (s b : ℕ) (places : List CodeBit) → stands s b places ≡ true → (k : ℕ) × ((c : CodeBit) × ((at places k ≡ Some c) × ((index c ≡ s) × (c.bit ≡ b))))
 somewhere s b [] t = absurd (false≢true t)
 somewhere s b (c ∷ cs) t =
-    elim (or_cases (nat_eq (index c) s && nat_eq c.2 b) (stands s b cs) t) [
+    elim (or_cases (nat_eq (index c) s && nat_eq c.bit b) (stands s b cs) t) [
       | inl here ↦
-          let both = and_parts (nat_eq (index c) s) (nat_eq c.2 b) here in
+          let both = and_parts (nat_eq (index c) s) (nat_eq c.bit b) here in
           (0, (c, (refl, (grind (arith, nat_tests), grind (arith, nat_tests)))))
       | inr later ↦
           let (k, rest) = somewhere s b cs later in
@@ -84,16 +84,16 @@ somewhere s b (c ∷ cs) t =
     ]
 
 -- what has a place stands somewhere
-found : (places : List CodeBit) (k : ℕ) (c : CodeBit) → at places k ≡ Some c → stands (index c) c.2 places ≡ true
+found : (places : List CodeBit) (k : ℕ) (c : CodeBit) → at places k ≡ Some c → stands (index c) c.bit places ≡ true
 found [] k c e = absurd (none_some c e)
-found (d ∷ cs) zero c e = let same = same_some d c e in or_left (nat_eq (index d) (index c) && nat_eq d.2 c.2) (stands (index c) c.2 cs) (grind (arith, nat_tests))
-found (d ∷ cs) (suc k) c e = or_right (nat_eq (index d) (index c) && nat_eq d.2 c.2) (stands (index c) c.2 cs) (found cs k c e)
+found (d ∷ cs) zero c e = let same = same_some d c e in or_left (nat_eq (index d) (index c) && nat_eq d.bit c.bit) (stands (index c) c.bit cs) (grind (arith, nat_tests))
+found (d ∷ cs) (suc k) c e = or_right (nat_eq (index d) (index c) && nat_eq d.bit c.bit) (stands (index c) c.bit cs) (found cs k c e)
 
 -- no code bit has two places
 twice : (d : CodeBit) (cs : List CodeBit) (c : CodeBit) (k : ℕ) → distinct (d ∷ cs) ≡ true → d ≡ c → at cs k ≡ Some c → ⊥
 twice d cs c k t e h =
-    let no = (and_parts (not (stands (index d) d.2 cs)) (distinct cs) t).0 in
-    let yes = subst (λ x. stands (index x) x.2 cs ≡ true) (sym e) (found cs k c h) in
+    let no = (and_parts (not (stands (index d) d.bit cs)) (distinct cs) t).0 in
+    let yes = subst (λ x. stands (index x) x.bit cs ≡ true) (sym e) (found cs k c h) in
     false≢true (sym (ap not yes) ∙ no)
 
 alone : (places : List CodeBit) → distinct places ≡ true → (j k : ℕ) (c : CodeBit) → at places j ≡ Some c → at places k ≡ Some c → j ≡ k
@@ -101,7 +101,7 @@ alone [] t j k c ej ek = absurd (none_some c ej)
 alone (d ∷ cs) t zero zero c ej ek = refl
 alone (d ∷ cs) t zero (suc k) c ej ek = absurd (twice d cs c k t (same_some d c ej) ek)
 alone (d ∷ cs) t (suc j) zero c ej ek = absurd (twice d cs c j t (same_some d c ek) ej)
-alone (d ∷ cs) t (suc j) (suc k) c ej ek = ap suc (alone cs (and_parts (not (stands (index d) d.2 cs)) (distinct cs) t).1 j k c ej ek)
+alone (d ∷ cs) t (suc j) (suc k) c ej ek = ap suc (alone cs (and_parts (not (stands (index d) d.bit cs)) (distinct cs) t).1 j k c ej ek)
 
 has_true : (rate : Rate) (c : CodeBit) → has rate c ≡ true → Has rate c
 has_true rate c t = record { from = grind (arith, nat_tests); to = grind (arith, nat_tests); bit = grind (arith, nat_tests) }
@@ -140,10 +140,10 @@ module _ (rate : Rate) (places : List CodeBit) (stand : all_stand rate places �
 
   one_place : (c : CodeBit) → Has rate c → Once places c
   one_place c h =
-      let i = c.1 - 1 in
-      let t = codes_stand_each (first c.0) (count rate c.0) (width rate c.0) places (each_stands rate places stand c.0) i c.2 (omega (arith, h.from, h.to)) h.bit in
-      let e : first c.0 + i ≡ index c = omega (arith, h.from) in
-      let (k, (d, (stands_at, (ei, eb)))) = somewhere (index c) c.2 places (subst (λ s. stands s c.2 places ≡ true) e t) in
+      let i = c.number - 1 in
+      let t = codes_stand_each (first c.name) (count rate c.name) (width rate c.name) places (each_stands rate places stand c.name) i c.bit (omega (arith, h.from, h.to)) h.bit in
+      let e : first c.name + i ≡ index c = omega (arith, h.from) in
+      let (k, (d, (stands_at, (ei, eb)))) = somewhere (index c) c.bit places (subst (λ s. stands s c.bit places ≡ true) e t) in
       let is : d ≡ c = same rate d c (carried k d stands_at) h ei eb in
       let here = subst (λ x. at places k ≡ Some x) is stands_at in
       (k, here, λ j there. alone places lone j k c there here)

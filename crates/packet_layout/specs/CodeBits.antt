@@ -17,7 +17,7 @@ one_to_eight = 1 ∷ 2 ∷ 3 ∷ 4 ∷ 5 ∷ 6 ∷ 7 ∷ 8 ∷ []
 
 -- bit b of code n of this name, as LSP1[3] for Lsp 1 3; CBSEED and PCB have the number 1
 abbrev pub code_bit : CodeName → ℕ → ℕ → CodeBit
-code_bit name n b = record { 0 = name; 1 = n; 2 = b }
+code_bit name n b = record { name = name; number = n; bit = b }
 
 -- how many codes of this name a frame has; at Rate 1/8 CBSEED stands in place of CBINDEX, and only Rate 1 has PCB
 abbrev pub count : Rate → CodeName → ℕ
@@ -56,9 +56,9 @@ width rate Pcb = 11
 
 -- the code bits that the packet of a rate carries
 pub record Has (rate : Rate) (c : CodeBit) : Type 0 where
-  pub from : 1 ≤ c.1
-  pub to : c.1 ≤ count rate c.0
-  pub bit : c.2 < width rate c.0
+  pub from : 1 ≤ c.number
+  pub to : c.number ≤ count rate c.name
+  pub bit : c.bit < width rate c.name
 
 -- how many bits the code of this name at an index from 0 has: none if the rate lacks it
 abbrev pub bits_at : Rate → CodeName → ℕ → ℕ
@@ -82,4 +82,4 @@ first Pcb = 35
 
 -- where the code of a code bit stands in that order
 abbrev pub index : CodeBit → ℕ
-index c = first c.0 + c.1 - 1
+index c = first c.name + c.number - 1

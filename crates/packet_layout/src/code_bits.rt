@@ -59,9 +59,28 @@ impl CodeName {
     }
 }
 
-/// A bit of a code: `CodeBit(CodeName::Lsp, 1, 3)` is LSP1[3]. Codes count from 1; CBSEED and PCB have the number 1.
+/// A bit of a code.
 #[derive(Clone, Copy, PartialEq, Eq, Debug)]
-pub struct CodeBit(pub CodeName, pub u8, pub u8);
+pub struct CodeBit {
+    /// The name of the code.
+    pub name: CodeName,
+    /// The number of the code among those of its name, counted from 1; CBSEED and PCB have the number 1.
+    pub number: u8,
+    /// The number of the bit, counted from 0 at the lowest.
+    pub bit: u8,
+}
+
+/// A code bit in short: `code_bit!(Lsp, 1, 3)` is LSP1[3].
+#[macro_export]
+macro_rules! code_bit {
+    ($name:ident, $number:expr, $bit:expr) => {
+        $crate::CodeBit {
+            name: $crate::CodeName::$name,
+            number: $number,
+            bit: $bit,
+        }
+    };
+}
 
 impl CodeBit {
     /// Where the code stands among the 36 of a frame, counted from 0, if a frame has a code of this number. Any other number
@@ -69,6 +88,6 @@ impl CodeBit {
     pub fn index(self) -> usize
         ensures { result ≡ index self }
     {
-        (self.0 as usize + usize::from(self.1)).saturating_sub(1)
+        (self.name as usize + usize::from(self.number)).saturating_sub(1)
     }
 }
