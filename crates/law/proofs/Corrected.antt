@@ -1,11 +1,7 @@
 -- What the rules of reading say of the packet of some codes with a bit changed: one of the 28, PCB[0], or both.
-use Rattle.std.proofs.Common.{◌≡◌, ◌≢◌, ℕ, ◌+◌, ◌-◌, ◌*◌, ◌/◌, ◌%◌, ◌^◌, ◌<◌, true, false, not, ◌==◌, List, length, bit_xor, slice_index, Some, inl, inr, refl, sym, ap, subst, ◌∙◌, arith}
-use Rattle.std.specs.Int.Bits.{xor_lt, xor_mod, xor_shr, xor_zero_r}
+use Rattle.std.proofs.Common.{◌≡◌, ◌≢◌, ℕ, ◌+◌, ◌-◌, ◌/◌, ◌%◌, ◌^◌, ◌<◌, true, List, length, bit_xor, slice_index, Some, inl, inr, refl, sym, ap, subst, ◌∙◌, arith}
+use Rattle.std.specs.Int.Bits.{xor_shr, xor_zero_r}
 use Rattle.std.proofs.lemmas.Bool.{cases_eq}
-use Rattle.std.proofs.lemmas.Bool.Decides.{nat_tests}
-use Rattle.std.proofs.lemmas.List.{get_or-set_other, get_or-set_same}
-use Rattle.std.proofs.Math.Pow.{pow-lt}
-use Rattle.std.proofs.lemmas.Nat.{pow-add}
 use Rattle.service.specs.declared.rates.Rate.TheVariants.{Full as Rate1}
 use Rattle.service.specs.declared.categories.Category.TheVariants.{Full, Suspect}
 use Rattle.cyclic.specs.Polynomials.{rem}
@@ -22,7 +18,7 @@ use Rattle.packet_layout.specs.Laws.{place}
 use Rattle.packet_layout.proofs.Laws.{guarded_pcb, guarded_places}
 use Rattle.packet_layout.proofs.Once.{same_some}
 use Rattle.packet.specs.declared.codes.CodeNumbers.{CodeNumbers}
-use Rattle.packet.specs.Calls.{Holds, packet}
+use Rattle.packet.specs.Calls.{Holds, Lawful, packet}
 use Rattle.packet.specs.CheckBits.{message_of, word_of}
 use Rattle.packet.specs.Codes.{Within, in_order}
 use Rattle.packet.proofs.Packets.{each_bit}
@@ -30,7 +26,7 @@ use Rattle.packet.proofs.Trips.{guarded_word, unpacking_returns}
 use Rattle.rules.specs.Arrivals.{is_lawful}
 use Rattle.law.proofs.Sent.{are_bytes_of, lawful_of}
 use Rattle.packet.proofs.Changed.{change_elsewhere, guarded_small, one_bit_changed, word_changed, word_corrected}
-use Rattle.packet.specs.Changes.{bit_of_power, corrected_packet, with_bit_changed, with_place_changed}
+use Rattle.packet.specs.Changes.{bit_of_power, corrected_packet, with_bit_changed}
 
 -- ---- any packet of 22 bytes
 
@@ -77,67 +73,31 @@ pcb0_holds xs c long holds = record {
     | inl is ↦
         let at_last : at (layout Rate1) (place Rate1 (slice_index guarded_bits 28)) ≡ Some (code_bit Pcb 1 0) = guarded_places 28 (omega arith) ∙ guarded_pcb 0 (omega arith) in
         let same : k ≡ place Rate1 (slice_index guarded_bits 28) = is ∙ sym (ap (place Rate1) last_guarded) in
-        absurd (other (ap (λ d. d.0) (same_some b (code_bit Pcb 1 0) (sym e ∙ ap (at (layout Rate1)) same ∙ at_last))))
+        absurd (other (ap (λ d. d.name) (same_some b (code_bit Pcb 1 0) (sym e ∙ ap (at (layout Rate1)) same ∙ at_last))))
     | inr ne ↦ holds.bits k b e other ∙ sym (change_elsewhere 170 k xs (omega arith) ne)
   ];
 }
 
 -- ---- what is lawful
 
--- 22 bytes whose spare bits are zero
+-- bytes that are a lawful packet at Rate 1
 pub record Fine (xs : List ℕ) : Type 0 where
-  pub size : length xs ≡ 22
-  pub spare : slice_index xs 21 % 2 ^ 5 ≡ 0
+  pub lawful : Lawful Rate1 xs
   pub bytes : (j : ℕ) → slice_index xs j < 256
 
-spare_unset : (n : ℕ) → n ≡ 0 → not (n == 0) ≡ false
-spare_unset n e = grind (arith, nat_tests)
-
 pub fine_full : (xs : List ℕ) → Fine xs → is_lawful (record { category = Full; bytes = xs }) ≡ true
-fine_full xs fine = lawful_of Full xs fine.size (spare_unset (slice_index xs 21 % 2 ^ 5) fine.spare) (are_bytes_of xs fine.bytes)
+fine_full xs fine = lawful_of Full xs fine.lawful.length fine.lawful.spare (are_bytes_of xs fine.bytes)
 
 pub fine_suspect : (xs : List ℕ) → Fine xs → is_lawful (record { category = Suspect; bytes = xs }) ≡ true
 fine_suspect xs fine = fine_full xs fine
 
 -- a change of one of the 171 bits leaves it so
-high_bit : (k : ℕ) → k / 8 ≡ 21 → k < 171 → 2 ^ (7 - k % 8) % 2 ^ 5 ≡ 0
-high_bit k e h =
-    let d = 2 - k % 8 in
-    let five : d + 5 ≡ 7 - k % 8 = omega (arith, e) in
-    let p : 2 ^ (7 - k % 8) ≡ 2 ^ d * 2 ^ 5 = ap (λ j. 2 ^ j) (sym five) ∙ pow-add 2 d 5 in
-    omega (arith, p)
-
 pub fine_changed : (xs : List ℕ) (n : ℕ) → n < 171 → Fine xs → Fine (with_bit_changed n xs)
-unfolding with_bit_changed
 fine_changed xs n h fine =
-    let k = place Rate1 n in
-    let t = k / 8 in
-    let b = slice_index xs t in
-    let m = 2 ^ (7 - k % 8) in
-    let v = bit_xor b m in
-    let l : t < length xs = omega (arith, fine.size) in
-    record {
-      size = (one_bit_changed xs n fine.size h).size ∙ fine.size;
-      spare = elim (cases_eq 21 t) [
-        | inl e ↦
-            let low : b % 2 ^ 5 ≡ 0 = ap (λ j. slice_index xs j % 2 ^ 5) (sym e) ∙ fine.spare in
-            let none : m % 2 ^ 5 ≡ 0 = high_bit k (sym e) (omega arith) in
-            ap (λ j. slice_index (with_place_changed k xs) j % 2 ^ 5) e ∙ ap (λ x. x % 2 ^ 5) (get_or-set_same xs t v 0 l)
-            ∙ xor_mod b m 5 ∙ ap (λ x. bit_xor x (m % 2 ^ 5)) low ∙ none
-        | inr ne ↦ ap (λ x. x % 2 ^ 5) (get_or-set_other xs t 21 v 0 ne) ∙ fine.spare
-      ];
-      bytes = λ j. elim (cases_eq j t) [
-        | inl e ↦
-            let m_lt : m < 2 ^ 8 = pow-lt {j = 8} (omega arith) in
-            subst (λ x. x < 256) (sym (ap (slice_index (with_place_changed k xs)) e ∙ get_or-set_same xs t v 0 l)) (xor_lt 8 b m (fine.bytes t) m_lt)
-        | inr ne ↦ subst (λ x. x < 256) (sym (get_or-set_other xs t j v 0 ne)) (fine.bytes j)
-      ];
-    }
+    let law = one_bit_changed xs n fine.lawful.length h in
+    record { lawful = law.lawful fine.lawful; bytes = law.bytes fine.bytes }
 
 -- ---- the packet of some codes
-
-zero_unset : (n : ℕ) → not (n == 0) ≡ false → n ≡ 0
-zero_unset n e = grind (arith, nat_tests)
 
 module _ (c : CodeNumbers) (within : Within Rate1 c) where
   pub sent_size : length (packet Rate1 c) ≡ 22
@@ -148,8 +108,7 @@ module _ (c : CodeNumbers) (within : Within Rate1 c) where
 
   pub sent_fine : Fine (packet Rate1 c)
   sent_fine = record {
-    size = sent_size;
-    spare = zero_unset (slice_index (packet Rate1 c) 21 % 2 ^ 5) (unpacking_returns Rate1 c within).lawful.spare;
+    lawful = (unpacking_returns Rate1 c within).lawful;
     bytes = (each_bit Rate1 c).bytes;
   }
 
@@ -206,11 +165,11 @@ module _ (c : CodeNumbers) (within : Within Rate1 c) where
 
     -- with both changed: not read
     pub both_changed_syndrome : syndrome (word_of (with_bit_changed 0 (corrected_packet p (packet Rate1 c)))) ≢ 0
-    both_changed_syndrome z = one_changed_syndrome (sym (pcb0_syndrome (corrected_packet p (packet Rate1 c)) one_changed_fine.size) ∙ z)
+    both_changed_syndrome z = one_changed_syndrome (sym (pcb0_syndrome (corrected_packet p (packet Rate1 c)) one_changed_fine.lawful.length) ∙ z)
 
     pub both_changed_corrects_none : (q : ℕ) → Corrects (word_of (with_bit_changed 0 (corrected_packet p (packet Rate1 c)))) q → ⊥
     both_changed_corrects_none q corrects =
-        omega (arith, corrects.0, pcb0_parity (corrected_packet p (packet Rate1 c)) one_changed_fine.size, one_changed_corrects.0)
+        omega (arith, corrects.0, pcb0_parity (corrected_packet p (packet Rate1 c)) one_changed_fine.lawful.length, one_changed_corrects.0)
 
     pub both_changed_fine : Fine (with_bit_changed 0 (corrected_packet p (packet Rate1 c)))
     both_changed_fine = fine_changed (corrected_packet p (packet Rate1 c)) 0 (omega arith) one_changed_fine

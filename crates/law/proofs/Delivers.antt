@@ -1,10 +1,10 @@
 -- What a link's own line delivers.
 use Rattle.std.proofs.Common.{◌≡◌, ℕ, ◌+◌, ◌-◌, List, [], ◌∷◌, ◌++◌, length, map, Ok, Err, Some, None, Option, ℤ, refl, sym, ap, ◌∙◌, append_assoc, append-nil, arith}
 use Rattle.std.proofs.lemmas.List.{length-append, length-map, map-append}
-use Rattle.rules.specs.Arrivals.{Arrival, arrival_made}
+use Rattle.rules.specs.Arrivals.{Arrival}
 use Rattle.rules.specs.Ends.{Taken}
 use Rattle.rules.specs.Sending.{Sent}
-use Rattle.rules.specs.Links.{Line, Link, source_left, this_line, to_come, to_come_from}
+use Rattle.rules.specs.Links.{Line, Link, arrival_put, source_left, this_line, to_come, to_come_from}
 use Rattle.law.specs.Runs.{Call, CallMade, Send, Blank, Disturb, Take, RestartSender, RestartReceiver, Frame, Role, frame, restarts, nothing, Run, Step, arrivals_taken, frame_of_role, frames_sent, now, receiver_role, restarts_at, sender_role, the_receiver, the_sender}
 use Rattle.law.specs.Keeping.{DisturbsNothing, OwnLineDelivers, IsUndisturbed, StartsEmpty, arrival_of_frame}
 use Rattle.law.proofs.Keeping.{set_length}
@@ -75,7 +75,7 @@ as_before line line' e = append-nil line.waiting ∙ ap (λ l. l.waiting) (sym e
 flows : (s t : Link) (c : Call) → s.source ≡ this_line → DisturbsNothing c → Step s c t → Flows s.line.waiting (sent_by (sender_role c)) (taken_by (receiver_role c)) t.line.waiting
 flows s t (Send n p (Ok f)) own calm h = ap (λ l. l.waiting) (sym h.0.1.line_after)
 flows s t (Send n p (Err e)) own calm h = as_before s.line t.line h.0.3
-flows s t (Blank (Ok u)) own calm h = ap (λ l. l.waiting) (sym h.0.2)
+flows s t (Blank (Ok u)) own calm h = ap (λ l. l.waiting) (sym h.0.0.1)
 flows s t (Blank (Err e)) own calm h = as_before s.line t.line (blank_refused s.sender t.sender s.line t.line e h.0).1
 flows s t (Disturb n c bytes (Ok u)) own calm h = absurd calm
 flows s t (Disturb n c bytes (Err e)) own calm h = as_before s.line t.line h.0.2
@@ -95,7 +95,7 @@ as_many s t c e =
 flows_many : (s t : Link) (c : Call) → s.source ≡ this_line → Step s c t
     → length s.line.waiting + length (sent_by (sender_role c)) ≡ length (taken_by (receiver_role c)) + length t.line.waiting
 flows_many s t (Disturb n c bytes (Ok u)) own h =
-    let e = ap (λ l. length l.waiting) h.0.line_after in omega (arith, e, set_length s.line.waiting (n - 1) (arrival_made c bytes))
+    let e = ap (λ l. length l.waiting) h.0.line_after in omega (arith, e, set_length s.line.waiting (n - 1) (arrival_put c bytes))
 flows_many s t (Send n p r) own h = as_many s t (Send n p r) (flows s t (Send n p r) own tt h)
 flows_many s t (Blank r) own h = as_many s t (Blank r) (flows s t (Blank r) own tt h)
 flows_many s t (Disturb n c bytes (Err e)) own h = as_many s t (Disturb n c bytes (Err e)) (flows s t (Disturb n c bytes (Err e)) own tt h)

@@ -8,11 +8,11 @@ use Rattle.rules.specs.Links.{Link}
 use Rattle.rules.specs.Sending.{Sent}
 use Rattle.law.specs.Runs.{CallMade, New, Run, Step, now, events_at, the_receiver, the_sender}
 use Rattle.law.specs.Law.{EveryRun, EveryRunCarries, EveryRunThroughout, EveryStepCarries, AtMostFourChanged, GuardedBitsHold, Law, RunsJoin}
-use Rattle.law.specs.Keeping.{EveryRunKeeps, Kept}
+use Rattle.law.specs.Keeping.{EveryRunKeeps, Kept, MadeLinksAreNew}
 use Rattle.law.proofs.Agreement.{agree}
 use Rattle.law.proofs.Facts.{IsPacket, WasRead, packet_facts, sent_facts, taken_facts}
 use Rattle.law.proofs.Guarding.{guarded_bits_hold}
-use Rattle.law.proofs.Keeping.{arrivals_kept, seed_kept, to_come_kept}
+use Rattle.law.proofs.Keeping.{arrivals_kept, places_kept, seed_kept, to_come_kept}
 use Rattle.law.proofs.Sent.{ten_length}
 use Rattle.law.proofs.Steps.{receiver_moves, sender_moves}
 use Rattle.law.proofs.Timeline.{held, in_range, rounded, spans}
@@ -54,8 +54,6 @@ module _ (s : Link) (new : New s) (h : List CallMade) (r : Run s h) where
         sender = (in_range the_sender sender_moves s sender_new h r, ap length (held the_sender sender_moves s sender_new h r) ∙ ten_after (events_at the_sender h));
         receiver = (in_range the_receiver receiver_moves s receiver_new h r, ap length (held the_receiver receiver_moves s receiver_new h r) ∙ ten_after (events_at the_receiver h));
         seed = seed_kept s h new r;
-        places = a.line.places;
-        fits = a.line.fits;
         waiting = a.line.waiting;
         supply = to_come_kept (now s h).source (now s h).line a.line a.supply;
       }
@@ -68,7 +66,10 @@ every_run_throughout s [] new r = every_run s [] new r
 every_run_throughout s (m ∷ h) new r = (every_run s (m ∷ h) new r, every_run_throughout s h new r.1)
 
 pub every_run_keeps : EveryRunKeeps
-every_run_keeps s h new r = kept s new h r
+every_run_keeps = record { link = λ s h new r. kept s new h r; line = places_kept }
+
+pub made_links_are_new : MadeLinksAreNew
+made_links_are_new line source waiting to_come = record { sender = refl; receiver = refl; waiting = waiting; supply = to_come }
 
 pub carried : EveryStepCarries
 carried t u c p = record {

@@ -200,7 +200,7 @@ module _ (m : List ℤ) where
   word_two : word_of two_wrong ≡ bit_xor (word_of bytes_sent) 2049
   unfolding guarded_bits
   word_two =
-      word_changed one_wrong 28 (one_changed_fine (silent (lsp_codes m)) (sends_within m) 10 (omega arith)).size (omega arith)
+      word_changed one_wrong 28 (one_changed_fine (silent (lsp_codes m)) (sends_within m) 10 (omega arith)).lawful.length (omega arith)
       ∙ ap (λ w. bit_xor w 1) word_one ∙ xor_assoc (word_of bytes_sent) 2048 1
 
 one_of_2048 : (count_ones 2048 ≡ 1) × (count_ones (2048 / 2) ≡ 1)
@@ -469,7 +469,7 @@ module _ (m : List ℤ) (h : List CallMade) (at_start : At m fresh h) (row : Row
     start = start;
     history = h259;
     empty = record { source = refl; waiting = refl };
-    new = record { sender = refl; receiver = refl; places = omega arith; fits = omega arith; waiting = nothing_waits; supply = nothing_waits };
+    new = record { sender = refl; receiver = refl; waiting = nothing_waits; supply = nothing_waits };
     run = run259;
     row = row_stays h258 h259 2 256 extends259 (row_is h258 1 256 0 1 row258);
     apart = apart2;

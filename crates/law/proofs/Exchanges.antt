@@ -121,12 +121,12 @@ send_step m r = (
 )
 
 pub blank_step : (m r : List ℤ) → Step (link m r []) (Blank (Ok tt)) (link m r (blank_arrival ∷ []))
-blank_step m r = ((omega arith, refl, refl), refl)
+blank_step m r = (((omega arith, refl), refl), refl)
 
 -- the waiting arrival is replaced by a suspect packet
 pub disturb_step : (m r : List ℤ) (a : Arrival) (bytes : List ℕ) → is_lawful (record { category = Suspect; bytes = bytes }) ≡ true
     → Step (link m r (a ∷ [])) (Disturb 1 5 bytes (Ok tt)) (link m r (record { category = Suspect; bytes = bytes } ∷ []))
-disturb_step m r a bytes lawful = (record { waits = (omega arith, omega arith); made = (refl, refl, lawful); line_after = refl }, refl)
+disturb_step m r a bytes lawful = (record { waits = (omega arith, omega arith); made = (refl, (refl, lawful)); line_after = refl }, refl)
 
 -- it is taken
 abbrev pub taken : Arrival → Letter → Option Reading → List ℤ → Taken

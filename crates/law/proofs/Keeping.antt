@@ -1,16 +1,16 @@
 -- What every link keeps: the places of its line, and lawful arrivals.
-use Rattle.std.proofs.Common.{◌≡◌, ℕ, Result, zero, suc, ◌-◌, ◌<◌, ◌≤◌, true, List, [], ◌∷◌, ◌++◌, length, set, Ok, Err, Some, None, refl, sym, ap, ◌∙◌, subst, arith}
+use Rattle.std.proofs.Common.{◌≡◌, ℕ, Result, zero, suc, ◌-◌, ◌<◌, ◌≤◌, true, List, [], ◌∷◌, ◌++◌, length, set, Ok, Err, Some, None, Option, refl, sym, ap, ◌∙◌, subst, arith}
 use Rattle.std.proofs.lemmas.Bool.{and_parts}
 use Rattle.service.specs.declared.refusals.Refusal.{Refusal}
-use Rattle.rules.specs.Ends.{Sender}
+use Rattle.rules.specs.Ends.{Sender, Taken}
 use Rattle.rules.specs.Arrivals.{Arrival, are_bytes, are_lawful, blank_arrival, is_lawful}
 use Rattle.rules.specs.Sending.{Parameters, Sent, arrival_sent, drawn}
-use Rattle.rules.specs.Links.{Blanks, Disturbs, Line, Link, Sends, Source, this_line, other_supply, line_left, with_last, source_left, to_come, to_come_from}
+use Rattle.rules.specs.Links.{Blanks, Disturbs, Line, Link, Sends, Source, this_line, other_supply, TakesFromSource, arrival_put, line_left, with_last, source_left, to_come, to_come_from}
 use Rattle.law.specs.Runs.{Call, Send, Blank, Disturb, Take, RestartSender, RestartReceiver, CallMade, New, Run, Step, now}
 use Rattle.law.proofs.Numbers.{push_length}
 use Rattle.law.proofs.Sent.{sent_lawful}
 use Rattle.law.proofs.Steps.{blank_refused}
-use Rattle.service.specs.Queues.{max_places}
+use Rattle.law.specs.Keeping.{WithinPlaces}
 
 lawful_push : (list : List Arrival) (a : Arrival) → are_lawful list ≡ true → is_lawful a ≡ true → are_lawful (list ++ (a ∷ [])) ≡ true
 unfolding are_lawful
@@ -37,8 +37,6 @@ set_length (x ∷ xs) zero a = refl
 set_length (x ∷ xs) (suc i) a = ap suc (set_length xs i a)
 
 pub record LineKept (line : Line) : Type 0 where
-  pub places : line.places ≤ max_places
-  pub fits : length line.waiting ≤ line.places
   pub waiting : are_lawful line.waiting ≡ true
 
 -- the arrivals that another supply has to come are lawful
@@ -60,17 +58,13 @@ unfolding SupplyKept
 supply_kept this_line line h = tt
 supply_kept (other_supply list) line h = h
 
-line_pushed : (line : Line) (a : Arrival) → length line.waiting < line.places → is_lawful a ≡ true → LineKept line → LineKept (with_last a line)
-line_pushed line a room lawful k = record {
-  places = k.places;
-  fits = omega (arith, push_length line.waiting a);
+line_pushed : (line : Line) (a : Arrival) → is_lawful a ≡ true → LineKept line → LineKept (with_last a line)
+line_pushed line a lawful k = record {
   waiting = lawful_push line.waiting a k.waiting lawful;
 }
 
 line_set : (line : Line) (i : ℕ) (a : Arrival) → is_lawful a ≡ true → LineKept line → LineKept (record line { waiting = set line.waiting i a })
 line_set line i a lawful k = record {
-  places = k.places;
-  fits = omega (arith, set_length line.waiting i a, k.fits);
   waiting = lawful_set line.waiting i a k.waiting lawful;
 }
 
@@ -79,15 +73,14 @@ left_kept : (supply : Source) (line : Line) (a : Arrival) (rest : List Arrival) 
     → LineKept (line_left supply rest line) × SupplyKept (source_left supply rest)
 unfolding SupplyKept
 left_kept this_line line a rest e k l =
-    let long = ap length e in
-    (record { places = k.places; fits = omega (arith, long, k.fits); waiting = lawful_rest a rest (subst (λ l. are_lawful l ≡ true) e k.waiting) }, tt)
+    (record { waiting = lawful_rest a rest (subst (λ l. are_lawful l ≡ true) e k.waiting) }, tt)
 left_kept (other_supply list) line a rest e k l = (k, lawful_rest a rest (subst (λ l. are_lawful l ≡ true) e l))
 
 none_left : (supply : Source) (line : Line) (rest : List Arrival) → to_come_from supply line ≡ [] → rest ≡ [] → LineKept line → SupplyKept supply
     → LineKept (line_left supply rest line) × SupplyKept (source_left supply rest)
 unfolding SupplyKept
 none_left this_line line rest e r k l =
-    (record { places = k.places; fits = (let z = ap length r in omega arith); waiting = subst (λ l. are_lawful l ≡ true) (e ∙ sym r) k.waiting }, tt)
+    (record { waiting = subst (λ l. are_lawful l ≡ true) (e ∙ sym r) k.waiting }, tt)
 none_left (other_supply list) line rest e r k l = (k, subst (λ l. are_lawful l ≡ true) (e ∙ sym r) l)
 
 pub blank_lawful : is_lawful blank_arrival ≡ true
@@ -97,15 +90,15 @@ blank_lawful = refl
 -- what each call leaves on the line
 send_keeps : (e e' : Sender) (line line' : Line) (n : ℕ) (p : Parameters) (r : Result Sent Refusal) → Sends e line n p r e' line' → LineKept line → LineKept line'
 send_keeps e e' line line' n p (Ok f) (complete, a) k =
-    subst LineKept (sym a.line_after) (line_pushed line (arrival_sent f) a.ready.1 (sent_lawful f.rate p e f a.coded) k)
+    subst LineKept (sym a.line_after) (line_pushed line (arrival_sent f) (sent_lawful f.rate p e f a.coded) k)
 send_keeps e e' line line' n p (Err r) (complete, refused, sender, line_is) k = subst LineKept (sym line_is) k
 
 blank_keeps : (e e' : Sender) (line line' : Line) (r : Result Unit Refusal) → Blanks e line r e' line' → LineKept line → LineKept line'
-blank_keeps e e' line line' (Ok u) (room, sender, line_is) k = subst LineKept (sym line_is) (line_pushed line blank_arrival room blank_lawful k)
+blank_keeps e e' line line' (Ok u) ((room, line_is), sender) k = subst LineKept (sym line_is) (line_pushed line blank_arrival blank_lawful k)
 blank_keeps e e' line line' (Err r) h k = subst LineKept (sym (blank_refused e e' line line' r h).1) k
 
 disturb_keeps : (line line' : Line) (n c : ℕ) (bytes : List ℕ) (r : Result Unit Refusal) → Disturbs line n c bytes r line' → LineKept line → LineKept line'
-disturb_keeps line line' n c bytes (Ok u) a k = subst LineKept (sym a.line_after) (line_set line (n - 1) _ a.made.2 k)
+disturb_keeps line line' n c bytes (Ok u) a k = subst LineKept (sym a.line_after) (line_set line (n - 1) _ a.made.1.1 k)
 disturb_keeps line line' n c bytes (Err r) (are, refused, line_is) k = subst LineKept (sym line_is) k
 
 pub step_keeps : (s t : Link) (c : Call) → Step s c t → ArrivalsKept s → ArrivalsKept t
@@ -132,10 +125,59 @@ step_keeps s t RestartReceiver h k = subst ArrivalsKept (sym h) (record { line =
 
 pub arrivals_kept : (s : Link) (h : List CallMade) → New s → Run s h → ArrivalsKept (now s h)
 arrivals_kept s [] new r = record {
-  line = record { places = new.places; fits = new.fits; waiting = new.waiting };
+  line = record { waiting = new.waiting };
   supply = supply_kept s.source s.line new.supply;
 }
 arrivals_kept s (m ∷ h) new r = step_keeps (now s h) m.link m.call r.0 (arrivals_kept s h new r.1)
+
+-- ---- the places of the line
+
+places_of_send : (e e' : Sender) (line line' : Line) (n : ℕ) (p : Parameters) (r : Result Sent Refusal) → Sends e line n p r e' line' → WithinPlaces line
+    → WithinPlaces line'
+places_of_send e e' line line' n p (Ok f) (complete, a) k =
+    let room = a.ready.1 in
+    let fits : length (line.waiting ++ (arrival_sent f ∷ [])) ≤ line.places = omega (arith, push_length line.waiting (arrival_sent f)) in
+    subst WithinPlaces (sym a.line_after) (record { places = k.places; fits = fits })
+places_of_send e e' line line' n p (Err r) (complete, refused, sender, line_is) k = subst WithinPlaces (sym line_is) k
+
+places_of_blank : (e e' : Sender) (line line' : Line) (r : Result Unit Refusal) → Blanks e line r e' line' → WithinPlaces line → WithinPlaces line'
+places_of_blank e e' line line' (Ok u) ((room, line_is), sender) k =
+    let fits : length (line.waiting ++ (blank_arrival ∷ [])) ≤ line.places = omega (arith, push_length line.waiting blank_arrival) in
+    subst WithinPlaces (sym line_is) (record { places = k.places; fits = fits })
+places_of_blank e e' line line' (Err r) h k = subst WithinPlaces (sym (blank_refused e e' line line' r h).1) k
+
+places_of_disturb : (line line' : Line) (n c : ℕ) (bytes : List ℕ) (r : Result Unit Refusal) → Disturbs line n c bytes r line' → WithinPlaces line
+    → WithinPlaces line'
+places_of_disturb line line' n c bytes (Ok u) a k =
+    let fits : length (set line.waiting (n - 1) (arrival_put c bytes)) ≤ line.places = omega (arith, set_length line.waiting (n - 1) (arrival_put c bytes), k.fits) in
+    subst WithinPlaces (sym a.line_after) (record { places = k.places; fits = fits })
+places_of_disturb line line' n c bytes (Err r) (are, refused, line_is) k = subst WithinPlaces (sym line_is) k
+
+-- no more wait once some were taken
+places_left : (source : Source) (line : Line) (rest : List Arrival) → length rest ≤ length (to_come_from source line) → WithinPlaces line
+    → WithinPlaces (line_left source rest line)
+places_left this_line line rest h k = record { places = k.places; fits = (let f = k.fits in omega arith) }
+places_left (other_supply list) line rest h k = k
+
+places_of_take : (s t : Link) (x : Option Taken) → TakesFromSource s x t → WithinPlaces s.line → WithinPlaces t.line
+places_of_take s t (Some x) (one, is) k =
+    let long = ap length one.first in
+    subst (λ l. WithinPlaces l.line) (sym is) (places_left s.source s.line (to_come t) (omega (arith, long)) k)
+places_of_take s t None (((none, rest), kept), is) k =
+    let long = ap length rest in
+    subst (λ l. WithinPlaces l.line) (sym is) (places_left s.source s.line (to_come t) (omega (arith, long)) k)
+
+places_step : (s t : Link) (c : Call) → Step s c t → WithinPlaces s.line → WithinPlaces t.line
+places_step s t (Send n p r) h k = places_of_send s.sender t.sender s.line t.line n p r h.0 k
+places_step s t (Blank r) h k = places_of_blank s.sender t.sender s.line t.line r h.0 k
+places_step s t (Disturb n c bytes r) h k = places_of_disturb s.line t.line n c bytes r h.0 k
+places_step s t (Take x) h k = places_of_take s t x h k
+places_step s t RestartSender h k = subst (λ l. WithinPlaces l.line) (sym h) k
+places_step s t RestartReceiver h k = subst (λ l. WithinPlaces l.line) (sym h) k
+
+pub places_kept : (s : Link) (h : List CallMade) → Run s h → WithinPlaces s.line → WithinPlaces (now s h).line
+places_kept s [] r k = k
+places_kept s (m ∷ h) r k = places_step (now s h) m.link m.call r.0 (places_kept s h r.1 k)
 
 -- ---- the seed
 
@@ -149,7 +191,7 @@ seed_of_send e e' line line' n p (Ok f) (complete, a) k = subst (λ d. d.seed < 
 seed_of_send e e' line line' n p (Err r) (complete, refused, sender, line_is) k = subst (λ d. d.seed < 65536) (sym sender) k
 
 seed_of_blank : (e e' : Sender) (line line' : Line) (r : Result Unit Refusal) → Blanks e line r e' line' → e.seed < 65536 → e'.seed < 65536
-seed_of_blank e e' line line' (Ok u) (room, sender, line_is) k = subst (λ d. d.seed < 65536) (sym sender) k
+seed_of_blank e e' line line' (Ok u) (joins, sender) k = subst (λ d. d.seed < 65536) (sym sender) k
 seed_of_blank e e' line line' (Err r) h k = subst (λ d. d.seed < 65536) (sym (blank_refused e e' line line' r h).0) k
 
 pub seed_step : (s t : Link) (c : Call) → Step s c t → s.sender.seed < 65536 → t.sender.seed < 65536

@@ -7,10 +7,11 @@ use Rattle.service.specs.declared.refusals.Refusal.{Refusal}
 use Rattle.service.specs.declared.refusals.Refusal.TheVariants.{Faulty, LineFull, NoArrival}
 use Rattle.service.specs.Categories.{category_of}
 use Rattle.service.specs.Tests.{spare_bits_set, unknown_category, wrong_length}
-use Rattle.rules.specs.Arrivals.{Arrival, MakesArrival, are_bytes, arrival_made, blank_arrival, is_lawful}
+use Rattle.rules.specs.Arrivals.{Arrival, MakesArrival, are_bytes, blank_arrival, is_lawful}
 use Rattle.rules.specs.Sending.{Parameters}
 use Rattle.rules.specs.Ends.{Sender, new_receiver, new_sender}
-use Rattle.rules.specs.Links.{Blanks, Disturbs, HasRoom, IsFull, Line, Link, Sends, Waits, sender_after_blank, with_last}
+use Rattle.service.specs.Queues.{HasRoom, IsFull, Waits}
+use Rattle.rules.specs.Links.{Blanks, Disturbs, Line, Link, Sends, sender_after_blank, with_last, arrival_put}
 use Rattle.law.specs.Runs.{Blank, Call, Disturb, RestartReceiver, RestartSender, Send, Step, Take}
 use Rattle.law.specs.Answers.{Answered, Command, IsComplete, OneAnswerToEachCall, OneArrivalOrFault, blank, command_of, disturb, restart_receiver, restart_sender, send, take}
 use Rattle.law.proofs.Once.{Once, guard_once, leaf_once}
@@ -38,6 +39,10 @@ lawful_whole a size spare bytes = rw (size, spare, bytes) refl
 
 -- ---- an arrival is made
 
+-- what is made is shown as it is
+abbrev plain : Arrival → Arrival
+plain a = a
+
 module _ (place c : ℕ) (bytes : List ℕ) where
   abbrev Made : Type 0
   Made = Result Arrival Fault
@@ -55,7 +60,7 @@ module _ (place c : ℕ) (bytes : List ℕ) where
   is_set = spare_bits_set (category_of c) bytes
 
   abbrev IsMade : Made → Type 0
-  IsMade r = r ≡ Ok (arrival_made c bytes)
+  IsMade r = r ≡ Ok (arrival_put c bytes)
 
   abbrev AtSpare : Made → Type 0
   AtSpare r = Fails is_set (SpareBits place) r ⊎ ((is_set ≡ false) × IsMade r)
@@ -76,26 +81,26 @@ module _ (place c : ℕ) (bytes : List ℕ) where
       (test_once is_wrong (Length place) AtSpare
       (test_once is_set (SpareBits place) IsMade (λ r r' e d. e ∙ sym d)))
 
-  is_made : (r : Made) → MakesArrival place c bytes r → AtCategory r
-  is_made (Ok a) (known, is, lawful) =
-      let tests = lawful_parts (arrival_made c bytes) (subst (λ b. is_lawful b ≡ true) is lawful) in
+  is_made : (r : Made) → MakesArrival plain place c bytes r → AtCategory r
+  is_made (Ok a) (known, (is, lawful)) =
+      let tests = lawful_parts (arrival_put c bytes) (subst (λ b. is_lawful b ≡ true) is lawful) in
       inr (known, inr (tests.size, inr (tests.spare, ap Ok is)))
   is_made (Err (UnknownCategory i)) (is, unknown) = inl (unknown, ap (λ j. Err (UnknownCategory j)) is)
-  is_made (Err (Length i)) (is, known, wrong) = inr (known, inl (wrong, ap (λ j. Err (Length j)) is))
-  is_made (Err (SpareBits i)) (is, known, right, set) = inr (known, inr (right, inl (set, ap (λ j. Err (SpareBits j)) is)))
-  is_made (Err fault) none = absurd none
+  is_made (Err (Length i)) (known, (is, wrong)) = inr (known, inl (wrong, ap (λ j. Err (Length j)) is))
+  is_made (Err (SpareBits i)) (known, (is, right, set)) = inr (known, inr (right, inl (set, ap (λ j. Err (SpareBits j)) is)))
+  is_made (Err fault) none = absurd none.1
 
-  pub arrival_once : (r r' : Made) → MakesArrival place c bytes r → MakesArrival place c bytes r' → r ≡ r'
+  pub arrival_once : (r r' : Made) → MakesArrival plain place c bytes r → MakesArrival plain place c bytes r' → r ≡ r'
   arrival_once r r' a b = made_once r r' (is_made r a) (is_made r' b)
 
-  pub arrival_some : are_bytes bytes ≡ true → (r : Made) × MakesArrival place c bytes r
+  pub arrival_some : are_bytes bytes ≡ true → (r : Made) × MakesArrival plain place c bytes r
   arrival_some are = elim (cases_Bool is_unknown) [
     | inl unknown ↦ (Err (UnknownCategory place), (refl, unknown))
     | inr known ↦ elim (cases_Bool is_wrong) [
-      | inl wrong ↦ (Err (Length place), (refl, known, wrong))
+      | inl wrong ↦ (Err (Length place), (known, (refl, wrong)))
       | inr right ↦ elim (cases_Bool is_set) [
-        | inl set ↦ (Err (SpareBits place), (refl, known, right, set))
-        | inr unset ↦ (Ok (arrival_made c bytes), (known, refl, lawful_whole (arrival_made c bytes) right unset are))
+        | inl set ↦ (Err (SpareBits place), (known, (refl, right, set)))
+        | inr unset ↦ (Ok (arrival_put c bytes), (known, (refl, lawful_whole (arrival_put c bytes) right unset are)))
       ]
     ]
   ]
@@ -110,20 +115,20 @@ BlankOutcome = Result Unit Refusal × Sender × Line
 
 module _ (e : Sender) (line : Line) where
   abbrev BlankFull : BlankOutcome → Type 0
-  BlankFull x = IsFull line × (x ≡ (Err LineFull, e, line))
+  BlankFull x = IsFull line.places line.waiting × (x ≡ (Err LineFull, e, line))
 
   abbrev BlankJoins : BlankOutcome → Type 0
   BlankJoins x = x ≡ (Ok tt, sender_after_blank e, with_last blank_arrival line)
 
-  blank_outcome_once : Once (λ x. BlankFull x ⊎ (HasRoom line × BlankJoins x))
+  blank_outcome_once : Once (λ x. BlankFull x ⊎ (HasRoom line.places line.waiting × BlankJoins x))
   blank_outcome_once =
-      guard_once BlankFull (HasRoom line) BlankJoins (λ x full room. let f = full.0 in omega arith) (leaf_once (IsFull line) (Err LineFull, e, line))
+      guard_once BlankFull (HasRoom line.places line.waiting) BlankJoins (λ x full room. let f = full.0 in omega arith) (leaf_once (IsFull line.places line.waiting) (Err LineFull, e, line))
       (λ x y is is'. is ∙ sym is')
 
-  is_blank_outcome : (r : Result Unit Refusal) (d : Sender) (l : Line) → Blanks e line r d l → BlankFull (r, d, l) ⊎ (HasRoom line × BlankJoins (r, d, l))
-  is_blank_outcome (Ok u) d l (room, is, is') = inr (room, ap₂ (λ x y. (Ok u, x, y)) is is')
-  is_blank_outcome (Err LineFull) d l (full, is, is') = inl (full, ap₂ (λ x y. (Err LineFull, x, y)) is is')
-  is_blank_outcome (Err r) d l none = absurd none
+  is_blank_outcome : (r : Result Unit Refusal) (d : Sender) (l : Line) → Blanks e line r d l → BlankFull (r, d, l) ⊎ (HasRoom line.places line.waiting × BlankJoins (r, d, l))
+  is_blank_outcome (Ok u) d l ((room, is'), is) = inr (room, ap₂ (λ x y. (Ok u, x, y)) is is')
+  is_blank_outcome (Err LineFull) d l ((full, is'), is) = inl (full, ap₂ (λ x y. (Err LineFull, x, y)) is is')
+  is_blank_outcome (Err r) d l none = absurd none.0
 
   blank_once : (r r' : Result Unit Refusal) (d d' : Sender) (l l' : Line) → Blanks e line r d l → Blanks e line r' d' l' → (r ≡ r') × (d ≡ d') × (l ≡ l')
   blank_once r r' d d' l l' a b =
@@ -132,8 +137,8 @@ module _ (e : Sender) (line : Line) where
 
   blank_some : (r : Result Unit Refusal) × (d : Sender) × (l : Line) × Blanks e line r d l
   blank_some = elim (cases_lt (length line.waiting) line.places) [
-    | inl room ↦ (Ok tt, sender_after_blank e, with_last blank_arrival line, (room, refl, refl))
-    | inr full ↦ (Err LineFull, e, line, (full, refl, refl))
+    | inl room ↦ (Ok tt, sender_after_blank e, with_last blank_arrival line, ((room, refl), refl))
+    | inr full ↦ (Err LineFull, e, line, ((full, refl), refl))
   ]
 
 -- ---- disturb
@@ -154,23 +159,23 @@ module _ (line : Line) (n c : ℕ) (bytes : List ℕ) where
   put (Err fault) = (Err (Faulty fault), line)
 
   abbrev Puts : DisturbOutcome → Type 0
-  Puts x = (r : Result Arrival Fault) × MakesArrival n c bytes r × (x ≡ put r)
+  Puts x = (r : Result Arrival Fault) × MakesArrival plain n c bytes r × (x ≡ put r)
 
   abbrev NoneWaits : DisturbOutcome → Type 0
-  NoneWaits x = (Waits line n → ⊥) × (x ≡ (Err NoArrival, line))
+  NoneWaits x = (Waits line.waiting n → ⊥) × (x ≡ (Err NoArrival, line))
 
   abbrev Disturbing : DisturbOutcome → Type 0
-  Disturbing x = NoneWaits x ⊎ (Waits line n × Puts x)
+  Disturbing x = NoneWaits x ⊎ (Waits line.waiting n × Puts x)
 
   puts_once : Once Puts
   puts_once x y (r, a, is) (r', b, is') = is ∙ ap put (arrival_once n c bytes r r' a b) ∙ sym is'
 
   disturbing_once : Once Disturbing
   disturbing_once =
-      guard_once NoneWaits (Waits line n) Puts (λ x none waits. none.0 waits) (leaf_once (Waits line n → ⊥) (Err NoArrival, line)) puts_once
+      guard_once NoneWaits (Waits line.waiting n) Puts (λ x none waits. none.0 waits) (leaf_once (Waits line.waiting n → ⊥) (Err NoArrival, line)) puts_once
 
   is_disturbing : (r : Result Unit Refusal) (l : Line) → Disturbs line n c bytes r l → Disturbing (r, l)
-  is_disturbing (Ok u) l a = inr (a.waits, (Ok (arrival_made c bytes), a.made, ap (λ k. (Ok u, k)) a.line_after))
+  is_disturbing (Ok u) l a = inr (a.waits, (Ok (arrival_put c bytes), a.made, ap (λ k. (Ok u, k)) a.line_after))
   is_disturbing (Err NoArrival) l (are, none, e) = inl (none, ap (λ k. (Err NoArrival, k)) e)
   is_disturbing (Err (Faulty fault)) l (are, (waits, made), e) = inr (waits, (Err fault, made, ap (λ k. (Err (Faulty fault), k)) e))
   is_disturbing (Err e) l q = absurd q.1
@@ -180,12 +185,12 @@ module _ (line : Line) (n c : ℕ) (bytes : List ℕ) where
       let same = disturbing_once (r, l) (r', l') (is_disturbing r l a) (is_disturbing r' l' b) in
       (ap (λ (x : DisturbOutcome). x.0) same, ap (λ (x : DisturbOutcome). x.1) same)
 
-  put_made : are_bytes bytes ≡ true → Waits line n → (r : Result Arrival Fault) → MakesArrival n c bytes r
+  put_made : are_bytes bytes ≡ true → Waits line.waiting n → (r : Result Arrival Fault) → MakesArrival plain n c bytes r
       → (r' : Result Unit Refusal) × (l : Line) × Disturbs line n c bytes r' l
-  put_made are waits (Ok a) (known, is, lawful) = (
+  put_made are waits (Ok a) (known, (is, lawful)) = (
     Ok tt,
-    record line { waiting = set line.waiting (n - 1) (arrival_made c bytes) },
-    record { waits = waits; made = (known, refl, subst (λ b. is_lawful b ≡ true) is lawful); line_after = refl },
+    record line { waiting = set line.waiting (n - 1) (arrival_put c bytes) },
+    record { waits = waits; made = (known, (refl, subst (λ b. is_lawful b ≡ true) is lawful)); line_after = refl },
   )
   put_made are waits (Err fault) made = (Err (Faulty fault), line, (are, (waits, made), refl))
 

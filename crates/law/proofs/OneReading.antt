@@ -21,7 +21,7 @@ use Rattle.packet_layout.specs.declared.subframes.PitchCodes.{PitchCodes}
 use Rattle.figures.specs.Pitch.{DecodesPitches, pitch_at}
 use Rattle.figures.specs.Codebook.{DecodesCodebooks, codebook_at}
 use Rattle.figures.proofs.Frames.{one_codebook_answer, one_pitch_answer}
-use Rattle.rules.specs.Readings.{AllOnes, IsNotRead, IsRead, IsReadWithPitchOff, Reading, Reads, ReadsCodes, pitch_off}
+use Rattle.rules.specs.Readings.{AllOnes, IsNotRead, IsReadWithPitch, IsReadWithPitchOff, Reading, Reads, ReadsCodes, pitch_off}
 use Rattle.law.specs.Answers.{OneReadingOfEachArrival}
 use Rattle.law.proofs.Filled.{filled, filled_front, filled_length, filled_past}
 use Rattle.law.proofs.Searches.{all_or_first}
@@ -70,7 +70,7 @@ codebooks_some rate codes cbindex cbgain =
 
 -- ---- some bytes are read, with the pitch of their codes or with pitch off
 
-read_some : (letter : Letter) (rate : Rate) (bytes : List ℕ) → (x : Option Reading) × IsRead letter rate bytes letter x
+read_some : (letter : Letter) (rate : Rate) (bytes : List ℕ) → (x : Option Reading) × IsReadWithPitch letter rate bytes letter x
 read_some letter rate bytes =
     let (c, holds) = (one_record rate bytes).some in
     let (pairs, p) = pitches_some rate c.pitch holds.within.sized.plag holds.within.sized.pgain in
@@ -103,7 +103,7 @@ codebooks_once rate bytes r r' a b =
     one_codebook_answer.decoded rate r'.codes.codebook r.codebooks r'.codebooks
     (subst (λ c. DecodesCodebooks rate c.codebook r.codebooks) (codes_once rate bytes r r' a b) a.codebooks) b.codebooks
 
-read_once : (letter : Letter) (rate : Rate) (bytes : List ℕ) (l l' : Letter) (x x' : Option Reading) → IsRead letter rate bytes l x → IsRead letter rate bytes l' x' → (l ≡ l') × (x ≡ x')
+read_once : (letter : Letter) (rate : Rate) (bytes : List ℕ) (l l' : Letter) (x x' : Option Reading) → IsReadWithPitch letter rate bytes l x → IsReadWithPitch letter rate bytes l' x' → (l ≡ l') × (x ≡ x')
 read_once letter rate bytes l l' (Some r) (Some r') (e, (a, p)) (e', (b, q)) =
     let codes = codes_once rate bytes r r' a b in
     let pitches = one_pitch_answer.decoded rate r'.codes.pitch r.pitches r'.pitches

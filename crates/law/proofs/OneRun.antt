@@ -320,12 +320,16 @@ page_some e (a ∷ supply) =
     let (xs, d, more) = page_some b supply in
     (x ∷ xs, d, (b, supply, one, more))
 
-start_some : (reel : Result (List Arrival) Answer) (e : Receiver) → (r : Result (List Arrival) Refusal) × (d : Receiver) × StartsPage reel e r d
+-- a supply is shown as the list of what is to come
+abbrev plain : List Arrival → List Arrival
+plain list = list
+
+start_some : (reel : Result (List Arrival) Answer) (e : Receiver) → (r : Result (List Arrival) Refusal) × (d : Receiver) × StartsPage plain reel e r d
 start_some (Ok list) e = (Ok list, new_receiver, (refl, refl))
 start_some (Err cause) e = (Err UnlawfulReel, e, refl)
 
 -- what the page call does, by whether the reel is lawful
-start_is : (reel : Result (List Arrival) Answer) (e d : Receiver) (r : Result (List Arrival) Refusal) → StartsPage reel e r d
+start_is : (reel : Result (List Arrival) Answer) (e d : Receiver) (r : Result (List Arrival) Refusal) → StartsPage plain reel e r d
     → (r ≡ (start_some reel e).0) × (d ≡ (start_some reel e).1)
 unfolding start_some
 start_is (Ok list) e d (Ok supply) (is, new) = (ap Ok is, new)
@@ -334,7 +338,7 @@ start_is (Err cause) e d (Ok supply) none = absurd none
 start_is (Err cause) e d (Err UnlawfulReel) kept = (refl, kept)
 start_is (Err cause) e d (Err r) none = absurd none
 
-start_restarts : (reel : Result (List Arrival) Answer) (s : Link) (supply : List Arrival) (e : Receiver) → StartsPage reel s.receiver (Ok supply) e
+start_restarts : (reel : Result (List Arrival) Answer) (s : Link) (supply : List Arrival) (e : Receiver) → StartsPage plain reel s.receiver (Ok supply) e
     → Step s RestartReceiver (record s { receiver = e })
 start_restarts (Ok list) s supply e (is, new) = ap (λ d. record s { receiver = d }) new
 start_restarts (Err cause) s supply e none = absurd none
@@ -351,7 +355,7 @@ rows_once supply rows rows' (xs, d, takes, is) (ys, d', takes', is') =
 
 text_some : (reel : Result (List Arrival) Answer) → (text : List ℕ) × PageOf reel text
 text_some (Ok supply) = let (rows, page) = rows_some supply in (header_text ++ rows_text 1 rows, (rows, page, refl))
-text_some (Err cause) = (refusal_line UnlawfulReel, refl)
+text_some (Err cause) = (refusal_line 18, refl)
 
 text_once : (reel : Result (List Arrival) Answer) (text text' : List ℕ) → PageOf reel text → PageOf reel text' → text ≡ text'
 text_once (Ok supply) text text' (rows, page, is) (rows', page', is') =

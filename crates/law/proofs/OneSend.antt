@@ -16,7 +16,8 @@ use Rattle.rules.specs.Sending.{send_answer, AreComplete, CodesFrame, AllDrawsAl
 use Rattle.figures.specs.Frame.{CodebooksAllowed, PitchesAllowed}
 use Rattle.law.proofs.Sent.{sent_bytes}
 use Rattle.rules.specs.Ends.{Sender}
-use Rattle.rules.specs.Links.{SendAnswers, HasRoom, IsFull, Line, Sends, with_last}
+use Rattle.service.specs.Queues.{HasRoom, IsFull}
+use Rattle.rules.specs.Links.{SendAnswers, Line, Sends, with_last}
 use Rattle.law.specs.Answers.{OneSendAnswer}
 use Rattle.law.proofs.Encoded.{codes_or_none, draws_once, encoded_once, no_draw_made, same_codes}
 use Rattle.law.proofs.Once.{Once, either_once, guard_once, leaf_once}
@@ -135,7 +136,7 @@ module _ (e : Sender) (line : Line) (n : ℕ) (p : Parameters) where
   AtFrequencies rate x = FrequencyFails x ⊎ (FrequenciesAllowed p.frequencies × AtPitches rate x)
 
   abbrev AtRoom : Rate → Outcome → Type 0
-  AtRoom rate x = (IsFull line × (x ≡ refused LineFull)) ⊎ (HasRoom line × AtFrequencies rate x)
+  AtRoom rate x = (IsFull line.places line.waiting × (x ≡ refused LineFull)) ⊎ (HasRoom line.places line.waiting × AtFrequencies rate x)
 
   abbrev Named : Outcome → Type 0
   Named x = (rate : Rate) × ((rate_is rate).number ≡ n) × AtRoom rate x
@@ -173,8 +174,8 @@ module _ (e : Sender) (line : Line) (n : ℕ) (p : Parameters) where
 
   at_room_once : (rate : Rate) → Once (AtRoom rate)
   at_room_once rate =
-      guard_once (λ x. IsFull line × (x ≡ refused LineFull)) (HasRoom line) (AtFrequencies rate)
-      (λ x full room. let f = full.0 in omega arith) (leaf_once (IsFull line) (refused LineFull)) (at_frequencies_once rate)
+      guard_once (λ x. IsFull line.places line.waiting × (x ≡ refused LineFull)) (HasRoom line.places line.waiting) (AtFrequencies rate)
+      (λ x full room. let f = full.0 in omega arith) (leaf_once (IsFull line.places line.waiting) (refused LineFull)) (at_frequencies_once rate)
 
   named_once : Once Named
   named_once x y (rate, is, a) (rate', is', b) =
@@ -220,7 +221,7 @@ module _ (e : Sender) (line : Line) (n : ℕ) (p : Parameters) where
   HasAnswer : Type 0
   HasAnswer = (r : Result Sent Refusal) × (e' : Sender) × (line' : Line) × Sends e line n p r e' line'
 
-  at_draws : AreComplete p → (rate : Rate) → (rate_is rate).number ≡ n → HasRoom line → FrequenciesAllowed p.frequencies → PitchesAllowed rate p.pitches → CodebooksAllowed rate p.codebooks → HasAnswer
+  at_draws : AreComplete p → (rate : Rate) → (rate_is rate).number ≡ n → HasRoom line.places line.waiting → FrequenciesAllowed p.frequencies → PitchesAllowed rate p.pitches → CodebooksAllowed rate p.codebooks → HasAnswer
   unfolding HasAnswer
   at_draws complete rate is room frequencies pitches codebooks = elim (codes_or_none rate p e.memories e.seed complete pitches codebooks) [
     | inl (c, m, encodes, d) ↦
@@ -241,21 +242,21 @@ module _ (e : Sender) (line : Line) (n : ℕ) (p : Parameters) where
     | inr none ↦ (Err AllOnesDrawn, e, line, (complete, (rate, (is, room), (frequencies, pitches, codebooks, none)), refl, refl))
   ]
 
-  at_codebooks : AreComplete p → (rate : Rate) → (rate_is rate).number ≡ n → HasRoom line → FrequenciesAllowed p.frequencies → PitchesAllowed rate p.pitches → HasAnswer
+  at_codebooks : AreComplete p → (rate : Rate) → (rate_is rate).number ≡ n → HasRoom line.places line.waiting → FrequenciesAllowed p.frequencies → PitchesAllowed rate p.pitches → HasAnswer
   unfolding HasAnswer
   at_codebooks complete rate is room frequencies pitches = elim (all_or_fails (codebook_passes rate) (rate_is rate).codebook_subframes) [
     | inl codebooks ↦ at_draws complete rate is room frequencies pitches codebooks
     | inr (i, f) ↦ (Err (Codebook (i + 1)), e, line, (complete, (rate, (is, room), (frequencies, pitches, (i, f, refl))), refl, refl))
   ]
 
-  at_pitches : AreComplete p → (rate : Rate) → (rate_is rate).number ≡ n → HasRoom line → FrequenciesAllowed p.frequencies → HasAnswer
+  at_pitches : AreComplete p → (rate : Rate) → (rate_is rate).number ≡ n → HasRoom line.places line.waiting → FrequenciesAllowed p.frequencies → HasAnswer
   unfolding HasAnswer
   at_pitches complete rate is room frequencies = elim (all_or_fails pitch_passes (rate_is rate).pitch_subframes) [
     | inl pitches ↦ at_codebooks complete rate is room frequencies pitches
     | inr (i, f) ↦ (Err (Pitch (i + 1)), e, line, (complete, (rate, (is, room), (frequencies, (i, f, refl))), refl, refl))
   ]
 
-  at_frequencies : AreComplete p → (rate : Rate) → (rate_is rate).number ≡ n → HasRoom line → HasAnswer
+  at_frequencies : AreComplete p → (rate : Rate) → (rate_is rate).number ≡ n → HasRoom line.places line.waiting → HasAnswer
   unfolding HasAnswer
   at_frequencies complete rate is room = elim (all_or_fails frequency_passes 10) [
     | inl frequencies ↦ at_pitches complete rate is room frequencies

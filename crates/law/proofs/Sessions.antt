@@ -1,13 +1,13 @@
 -- From every link each list of commands has one run.
-use Rattle.std.proofs.Common.{◌≡◌, List, [], ◌∷◌, ◌++◌, length, map, reverse, Some, Option, refl, sym, ap, ap₂, ◌∙◌, subst, arith}
+use Rattle.std.proofs.Common.{◌≡◌, List, [], ◌∷◌, ◌++◌, length, map, reverse, Ok, Err, Some, Option, refl, sym, ap, ap₂, ◌∙◌, subst, arith}
 use Rattle.std.proofs.lemmas.List.{map-append, reverse-append}
 use Rattle.rules.specs.Links.{Link}
-use Rattle.law.specs.Runs.{Call, CallMade, Run, Step, now}
+use Rattle.law.specs.Runs.{Call, CallMade, Run, Send, Step, now}
 use Rattle.law.specs.Answers.{Command, command_of}
 use Rattle.law.proofs.OneAnswer.{one_answer}
 use Rattle.law.proofs.OneRun.{run_before}
-use Rattle.law.specs.Sessions.{AreAllComplete, Gives, IsSession, OneOutcomeOfASession, OneSessionOfCommands, Outcome, Session, SessionsGrow, outcome_of}
-use Rattle.law.proofs.Every.{carried_over, every_run_throughout}
+use Rattle.law.specs.Sessions.{AreAllComplete, Gives, IsSession, OneOutcomeOfASession, OneSessionOfCommands, Outcome, SendAnswersCarry, Session, SessionsGrow, outcome_of, sent}
+use Rattle.law.proofs.Every.{carried, carried_over, every_run_throughout}
 
 abbrev command_made : CallMade → Command
 command_made m = command_of m.call
@@ -115,4 +115,18 @@ sessions_grow = record {
     law = λ new. every_run_throughout s [] new tt;
   };
   more = session_more;
+}
+
+pub send_answers_carry : SendAnswersCarry
+send_answers_carry t u n p (Ok draws) (f, is, h) kept = record {
+  call = Send n p (Ok f);
+  given = refl;
+  reply_is = ap (λ k. sent (Ok k)) is;
+  carried = carried t u (Send n p (Ok f)) (h, kept);
+}
+send_answers_carry t u n p (Err refusal) h kept = record {
+  call = Send n p (Err refusal);
+  given = refl;
+  reply_is = refl;
+  carried = carried t u (Send n p (Err refusal)) (h, kept);
 }

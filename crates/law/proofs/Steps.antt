@@ -73,16 +73,16 @@ pub record Moves {A : Type 0} (side : LinkEnd A) (s : Link) (c : Call) (t : Link
 
 -- a blank that is refused alters nothing
 pub blank_refused : (e e' : Sender) (line line' : Line) (r : Refusal) → Blanks e line (Err r) e' line' → (e' ≡ e) × (line' ≡ line)
-blank_refused e e' line line' LineFull h = (h.1, h.2)
-blank_refused e e' line line' (Faulty f) h = absurd h
-blank_refused e e' line line' (Frequency i) h = absurd h
-blank_refused e e' line line' (Pitch i) h = absurd h
-blank_refused e e' line line' (Codebook i) h = absurd h
-blank_refused e e' line line' AllOnesDrawn h = absurd h
-blank_refused e e' line line' NoArrival h = absurd h
-blank_refused e e' line line' ShortBuffer h = absurd h
-blank_refused e e' line line' Codes h = absurd h
-blank_refused e e' line line' UnlawfulReel h = absurd h
+blank_refused e e' line line' LineFull h = (h.1, h.0.1)
+blank_refused e e' line line' (Faulty f) h = absurd h.0
+blank_refused e e' line line' (Frequency i) h = absurd h.0
+blank_refused e e' line line' (Pitch i) h = absurd h.0
+blank_refused e e' line line' (Codebook i) h = absurd h.0
+blank_refused e e' line line' AllOnesDrawn h = absurd h.0
+blank_refused e e' line line' NoArrival h = absurd h.0
+blank_refused e e' line line' ShortBuffer h = absurd h.0
+blank_refused e e' line line' Codes h = absurd h.0
+blank_refused e e' line line' UnlawfulReel h = absurd h.0
 
 pub sender_moves : (s t : Link) (c : Call) → Step s c t → Moves the_sender s c t
 sender_moves s t (Send n p (Ok f)) h = record {

@@ -21,10 +21,10 @@ use Rattle.law.specs.Runs.{Call, CallMade, Send, Blank, Disturb, Take, RestartSe
 pub record OneArrivalOrFault : Type 0 where
   pub some :
       (place c : ℕ) (bytes : List ℕ) → are_bytes bytes ≡ true
-      → (r : Result Arrival Fault) × MakesArrival place c bytes r
+      → (r : Result Arrival Fault) × MakesArrival (λ a. a) place c bytes r
   pub only :
-      (place c : ℕ) (bytes : List ℕ) (r r' : Result Arrival Fault) → MakesArrival place c bytes r
-      → MakesArrival place c bytes r' → r ≡ r'
+      (place c : ℕ) (bytes : List ℕ) (r r' : Result Arrival Fault) → MakesArrival (λ a. a) place c bytes r
+      → MakesArrival (λ a. a) place c bytes r' → r ≡ r'
 
 -- every arrival is read in one way, whatever its bytes; and something is read exactly if its letter says so
 pub record OneReadingOfEachArrival : Type 0 where
@@ -131,13 +131,13 @@ pub record OneAnswerToEachRunOfTakes : Type 0 where
 pub record OnePage : Type 0 where
   pub start :
       (reel : Result (List Arrival) Answer) (e : Receiver)
-      → (r : Result (List Arrival) Refusal) × (d : Receiver) × StartsPage reel e r d
+      → (r : Result (List Arrival) Refusal) × (d : Receiver) × StartsPage (λ list. list) reel e r d
   pub only_start :
       (reel : Result (List Arrival) Answer) (e d d' : Receiver) (r r' : Result (List Arrival) Refusal)
-      → StartsPage reel e r d → StartsPage reel e r' d' → (r ≡ r') × (d ≡ d')
+      → StartsPage (λ list. list) reel e r d → StartsPage (λ list. list) reel e r' d' → (r ≡ r') × (d ≡ d')
   pub restarts :
       (reel : Result (List Arrival) Answer) (s : Link) (supply : List Arrival) (e : Receiver)
-      → StartsPage reel s.receiver (Ok supply) e → Step s RestartReceiver (record s { receiver = e })
+      → StartsPage (λ list. list) reel s.receiver (Ok supply) e → Step s RestartReceiver (record s { receiver = e })
   pub some : (supply : List Arrival) → (rows : List Row) × PageRows supply rows
   pub only :
       (supply : List Arrival) (rows rows' : List Row) → PageRows supply rows → PageRows supply rows' → rows ≡ rows'

@@ -4,9 +4,14 @@ use Rattle.service.specs.Queues.{max_places}
 use Rattle.lsp.specs.States.{InRange}
 use Rattle.rules.specs.Arrivals.{Arrival, are_lawful, blank_arrival}
 use Rattle.rules.specs.Sending.{Sent, arrival_sent}
-use Rattle.rules.specs.Links.{Link, this_line, to_come}
+use Rattle.rules.specs.Links.{Line, Link, Source, new_link, this_line, to_come, to_come_from}
 use Rattle.law.specs.Runs.{Call, CallMade, Send, Blank, Disturb, Take, RestartSender, RestartReceiver, New, Run}
 use Rattle.law.specs.Runs.{arrivals_taken, frames_sent, now}
+
+-- a line has at most 256 places, and no more arrivals wait on it than it has, as is so of every queue
+pub record WithinPlaces (line : Line) : Type 0 where
+  pub places : line.places ≤ max_places
+  pub fits : length line.waiting ≤ line.places
 
 -- what is so of every link that a run from a new one leads to
 pub record Kept (s : Link) : Type 0 where
@@ -14,15 +19,20 @@ pub record Kept (s : Link) : Type 0 where
   pub sender : InRange s.sender.memories × (length s.sender.memories ≡ 10)
   pub receiver : InRange s.receiver.memories × (length s.receiver.memories ≡ 10)
   pub seed : s.sender.seed < 65536
-  -- the line has at most 256 places, no more arrivals wait than it has, and these and those to come are lawful
-  pub places : s.line.places ≤ max_places
-  pub fits : length s.line.waiting ≤ s.line.places
+  -- the arrivals that wait and those to come are lawful
   pub waiting : are_lawful s.line.waiting ≡ true
   pub supply : are_lawful (to_come s) ≡ true
 
--- every run from a new link leads to a link that keeps this
-abbrev pub EveryRunKeeps : Type 0
-EveryRunKeeps = (s : Link) (h : List CallMade) → New s → Run s h → Kept (now s h)
+-- every run from a new link leads to a link that keeps this, and to a line within its places if it was so at first
+pub record EveryRunKeeps : Type 0 where
+  pub link : (s : Link) (h : List CallMade) → New s → Run s h → Kept (now s h)
+  pub line : (s : Link) (h : List CallMade) → Run s h → WithinPlaces s.line → WithinPlaces (now s h).line
+
+-- a link that is made of lawful arrivals is new
+abbrev pub MadeLinksAreNew : Type 0
+MadeLinksAreNew =
+    (line : Line) (source : Source) → are_lawful line.waiting ≡ true → are_lawful (to_come_from source line) ≡ true
+    → New (new_link line source)
 
 -- the arrival that a frame sent puts on the line
 abbrev pub arrival_of_frame : Option Sent → Arrival

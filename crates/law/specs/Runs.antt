@@ -1,8 +1,7 @@
 -- Runs of calls on a link, and what is read off one.
-use Rattle.std.specs.Prelude.{◌≡◌, ℕ, ◌+◌, ◌≤◌, true, List, [], ◌∷◌, ◌++◌, length, ℤ, Ok, Err, Some, None, Option}
+use Rattle.std.specs.Prelude.{◌≡◌, ℕ, ◌+◌, true, List, [], ◌∷◌, ◌++◌, ℤ, Ok, Err, Some, None, Option}
 use Rattle.std.specs.Prelude.{Result}
 use Rattle.service.specs.declared.refusals.Refusal.{Refusal}
-use Rattle.service.specs.Queues.{max_places}
 use Rattle.lsp.specs.Histories.{Event, blank, packet, restart}
 use Rattle.rules.specs.Arrivals.{are_lawful}
 use Rattle.rules.specs.Readings.{event_read}
@@ -29,13 +28,10 @@ Step s (Take x) t = TakesFromSource s x t
 Step s RestartSender t = t ≡ record s { sender = new_sender }
 Step s RestartReceiver t = t ≡ record s { receiver = new_receiver }
 
--- a link is new if both ends are, whatever lawful arrivals wait on its line and are to come; the line has at most 256
--- places, and no more arrivals wait than it has
+-- a link is new if both ends are, whatever lawful arrivals wait on its line and are to come
 pub record New (s : Link) : Type 0 where
   pub sender : s.sender ≡ new_sender
   pub receiver : s.receiver ≡ new_receiver
-  pub places : s.line.places ≤ max_places
-  pub fits : length s.line.waiting ≤ s.line.places
   pub waiting : are_lawful s.line.waiting ≡ true
   pub supply : are_lawful (to_come s) ≡ true
 

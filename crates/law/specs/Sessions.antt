@@ -1,12 +1,13 @@
 -- Sessions: lists of commands that are performed on a link one after another, with what each gave.
-use Rattle.std.specs.Prelude.{◌≡◌, ℕ, List, [], ◌∷◌, ◌++◌, map, reverse, Some, Option, Result}
+use Rattle.std.specs.Prelude.{◌≡◌, ℕ, List, [], ◌∷◌, ◌++◌, length, map, reverse, Ok, Err, Some, None, Option, Result}
 use Rattle.service.specs.declared.refusals.Refusal.{Refusal}
 use Rattle.rules.specs.Ends.{Receiver, Sender, Taken}
-use Rattle.rules.specs.Links.{Link}
-use Rattle.rules.specs.Sending.{send_answer}
+use Rattle.rules.specs.Arrivals.{Arrival, blank_arrival}
+use Rattle.rules.specs.Links.{Link, SendAnswers, arrival_put}
+use Rattle.rules.specs.Sending.{Parameters, arrival_sent, send_answer}
 use Rattle.law.specs.Runs.{Call, CallMade, Send, Blank, Disturb, Take, RestartSender, RestartReceiver, New, Run, Step}
-use Rattle.law.specs.Law.{CarriedOver, LawThroughout}
-use Rattle.law.specs.Answers.{Command, IsComplete, command_of}
+use Rattle.law.specs.Law.{Carried, CarriedOver, LawThroughout}
+use Rattle.law.specs.Answers.{Command, IsComplete, command_of, send}
 
 -- ---- runs of given commands
 
@@ -46,15 +47,37 @@ reply_of (Take x) = took x
 reply_of RestartSender = restarted
 reply_of RestartReceiver = restarted
 
--- what a command gave: the reply, and both ends right after it
+-- the arrival that a call put on the line: the packet or the blank that was sent, or what a disturb put in another's
+-- place
+abbrev pub arrival_on_line : Call → Option Arrival
+arrival_on_line (Send n p (Ok f)) = Some (arrival_sent f)
+arrival_on_line (Send n p (Err e)) = None
+arrival_on_line (Blank (Ok u)) = Some blank_arrival
+arrival_on_line (Blank (Err e)) = None
+arrival_on_line (Disturb n c bytes (Ok u)) = Some (arrival_put c bytes)
+arrival_on_line (Disturb n c bytes (Err e)) = None
+arrival_on_line (Take x) = None
+arrival_on_line RestartSender = None
+arrival_on_line RestartReceiver = None
+
+-- what a command gave: the reply, the arrival that it put on the line, and right after it both ends and how many
+-- arrivals wait
 pub record Outcome : Type 0 where
   pub reply : Reply
+  pub put : Option Arrival
   pub sender : Sender
   pub receiver : Receiver
+  pub waiting : ℕ
 
 -- what a call that was made gave
 abbrev pub outcome_of : CallMade → Outcome
-outcome_of m = record { reply = reply_of m.call; sender = m.link.sender; receiver = m.link.receiver }
+outcome_of m = record {
+  reply = reply_of m.call;
+  put = arrival_on_line m.call;
+  sender = m.link.sender;
+  receiver = m.link.receiver;
+  waiting = length m.link.line.waiting;
+}
 
 -- a command on the link s gave this and led to the link t, by the rule of its call
 pub record Gives (s : Link) (command : Command) (outcome : Outcome) (t : Link) : Type 0 where
@@ -62,6 +85,15 @@ pub record Gives (s : Link) (command : Command) (outcome : Outcome) (t : Link) :
   pub given : command_of call ≡ command
   pub outcome_is : outcome_of (record { call = call; link = t }) ≡ outcome
   pub step : Step s call t
+
+-- A command on the link t was answered so and led to the link u, by the rule of its call; so any run from a new link
+-- that led to t goes on to u, and the law holds after each call of it. This is for the call of a link that knows its
+-- reply, and not all that its relation has, as a send.
+pub record ReplyCarried (t : Link) (command : Command) (reply : Reply) (u : Link) : Type 0 where
+  pub call : Call
+  pub given : command_of call ≡ command
+  pub reply_is : reply_of call ≡ reply
+  pub carried : Carried t call u
 
 -- The commands, performed on s one after another, gave these outcomes, one each, and led to t: they are those of a
 -- history that is a run of exactly these commands. Any run that led to s goes on by it, and if s was new the law holds
@@ -78,6 +110,13 @@ abbrev pub OneOutcomeOfASession : Type 0
 OneOutcomeOfASession =
     (s t t' : Link) (commands : List Command) (outcomes outcomes' : List (Option Outcome))
     → Session s commands outcomes t → Session s commands outcomes' t' → (outcomes ≡ outcomes') × (t ≡ t')
+
+-- by the answer, of a send: any run goes on
+abbrev pub SendAnswersCarry : Type 0
+SendAnswersCarry =
+    (t u : Link) (n : ℕ) (p : Parameters) (answer : Result ℕ Refusal)
+    → SendAnswers t.sender t.line n p answer u.sender u.line → u ≡ record t { sender = u.sender; line = u.line }
+    → ReplyCarried t (send n p) (sent answer) u
 
 -- no command is a session, and a session and one command more are a session
 pub record SessionsGrow : Type 0 where

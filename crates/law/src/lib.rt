@@ -5,11 +5,11 @@
 ghost use Rattle.law.specs.Answers.{ChainOfTakesIsARun, ChainsOfTakesJoin, EachTakeIsACall, OneAnswerToEachCall, OneAnswerToEachRunOfTakes, OneArrivalOrFault, OnePage, OneReadingOfEachArrival, OneSendAnswer};
 ghost use Rattle.law.specs.Changes.{ChangesOfWords};
 ghost use Rattle.law.specs.Example.{ExampleRun};
-ghost use Rattle.law.specs.Keeping.{EveryRunKeeps, OwnLineDelivers};
+ghost use Rattle.law.specs.Keeping.{EveryRunKeeps, MadeLinksAreNew, OwnLineDelivers};
 ghost use Rattle.law.specs.Law.{EveryRun, EveryRunCarries, EveryRunThroughout, EveryStepCarries, RunsJoin};
 ghost use Rattle.law.specs.Listing.{WorkedListing};
 ghost use Rattle.law.specs.Marks.{WorkedExamples};
-ghost use Rattle.law.specs.Sessions.{OneOutcomeOfASession, OneSessionOfCommands, SessionsGrow};
+ghost use Rattle.law.specs.Sessions.{OneOutcomeOfASession, OneSessionOfCommands, SendAnswersCarry, SessionsGrow};
 
 /// Carries a theorem: every run of calls from a new link keeps the law: of the guarded bits, of the rounding, and of the
 /// agreement of the two ends.
@@ -43,11 +43,17 @@ pub fn runs_join()
 {}
 
 /// Carries a theorem: every run from a new link leads to a link with ten memories at each end, none of which reaches 2^33 in size,
-/// with SD below 65,536, with at most 256 places on its line and no more arrivals waiting than places, all of which are lawful, as
-/// are those to come.
+/// with SD below 65,536, and with lawful arrivals waiting and to come; and every run keeps a line within its places: at most 256,
+/// and no more arrivals waiting than places.
 #[tactic(auto, using(crate::proofs::Every::every_run_keeps))]
 pub fn every_run_keeps()
     ensures { EveryRunKeeps }
+{}
+
+/// Carries a theorem: a link that is made of a line and a source with lawful arrivals is new.
+#[tactic(auto, using(crate::proofs::Every::made_links_are_new))]
+pub fn made_links_are_new()
+    ensures { MadeLinksAreNew }
 {}
 
 /// Carries a theorem: on a link that takes from its own line, on which nothing waited at first, as many frames were sent as
@@ -101,6 +107,13 @@ pub fn sessions_grow()
     ensures { SessionsGrow }
 {}
 
+/// Carries a theorem: what a send answers its caller, and that nothing else of the link is altered, is enough for any run to go on by
+/// it, and the law with it.
+#[tactic(auto, using(crate::proofs::Sessions::send_answers_carry))]
+pub fn send_answers_carry()
+    ensures { SendAnswersCarry }
+{}
+
 /// Carries a theorem: a take of the receiver from what is to come to its link is a take call on the link.
 #[tactic(auto, using(crate::proofs::OneRun::each_take_is_a_call))]
 pub fn each_take_is_a_call()
@@ -152,7 +165,7 @@ pub fn worked_listing()
 {}
 
 /// Carries a theorem: there is a run in which the premises of the law hold. The ends' memories are more than ten grains apart; 256
-/// packets in a row are read as sent, with a blank, a corrected packet and one with a wrong PCB[0] among them; and a packet with two
+/// packets in a row are read at their rates and with their LSP codes, with a blank, a corrected packet and one with a wrong PCB[0] among them; and a packet with two
 /// wrong bits is erased.
 #[tactic(auto, using(crate::proofs::Example::example_run))]
 pub fn example_run()

@@ -1,10 +1,11 @@
 -- One bit of a packet changed, in its bytes and in its word.
-use Rattle.std.proofs.Common.{◌≡◌, ◌≢◌, ℕ, zero, suc, ◌+◌, ◌-◌, ◌*◌, ◌/◌, ◌%◌, ◌^◌, ◌<◌, ◌==◌, Bool, true, not, ◌&&◌, nat_lt, List, [], ◌∷◌, length, bit_xor, slice_index, set, inl, inr, refl, sym, ap, ap₂, ◌∙◌, arith, pow-suc, one-mul}
-use Rattle.std.specs.Int.Bits.{xor_assoc, xor_block, xor_mod, xor_shr, xor_zero_r}
+use Rattle.std.proofs.Common.{◌≡◌, ◌≢◌, ℕ, zero, suc, ◌+◌, ◌-◌, ◌*◌, ◌/◌, ◌%◌, ◌^◌, ◌<◌, ◌==◌, Bool, true, not, ◌&&◌, nat_lt, List, [], ◌∷◌, length, bit_xor, slice_index, set, inl, inr, refl, sym, ap, ap₂, ◌∙◌, arith, pow-suc, one-mul, subst}
+use Rattle.std.specs.Int.Bits.{xor_assoc, xor_block, xor_lt, xor_mod, xor_shr, xor_zero_r}
 use Rattle.std.proofs.lemmas.Bool.{and_parts, cases_eq}
 use Rattle.std.proofs.lemmas.Bool.Decides.{nat_tests}
 use Rattle.std.proofs.lemmas.List.{ext_get_or, get_or-set_other, get_or-set_same, length-set}
-use Rattle.std.proofs.lemmas.Nat.{xor_comm}
+use Rattle.std.proofs.Math.Pow.{pow-lt}
+use Rattle.std.proofs.lemmas.Nat.{pow-add, xor_comm}
 use Rattle.service.specs.declared.rates.Rate.TheVariants.{Full}
 use Rattle.service.specs.Rates.{rate_is}
 use Rattle.cyclic.specs.Words.{corrected}
@@ -87,16 +88,56 @@ change_back k xs h =
       | inr ne ↦ get_or-set_other once t i (bit_xor (slice_index once t) m) 0 ne ∙ get_or-set_other xs t i (bit_xor b m) 0 ne
     ])
 
+-- a change of one of the 171 bits leaves the spare bits as they are, and bytes bytes
+high_bit : (k : ℕ) → k / 8 ≡ 21 → k < 171 → 2 ^ (7 - k % 8) % 2 ^ 5 ≡ 0
+high_bit k e h =
+    let d = 2 - k % 8 in
+    let five : d + 5 ≡ 7 - k % 8 = omega (arith, e) in
+    let p : 2 ^ (7 - k % 8) ≡ 2 ^ d * 2 ^ 5 = ap (λ j. 2 ^ j) (sym five) ∙ pow-add 2 d 5 in
+    omega (arith, p)
+
+module _ (k : ℕ) (h : k < 171) (xs : List ℕ) (l : k / 8 < length xs) where
+  abbrev byte : ℕ
+  byte = slice_index xs (k / 8)
+
+  abbrev mask : ℕ
+  mask = 2 ^ (7 - k % 8)
+
+  spare_kept : slice_index (with_place_changed k xs) 21 % 2 ^ 5 ≡ slice_index xs 21 % 2 ^ 5
+  spare_kept = elim (cases_eq 21 (k / 8)) [
+    | inl e ↦
+        let none : mask % 2 ^ 5 ≡ 0 = high_bit k (sym e) h in
+        ap (λ j. slice_index (with_place_changed k xs) j % 2 ^ 5) e ∙ ap (λ x. x % 2 ^ 5) (get_or-set_same xs (k / 8) (bit_xor byte mask) 0 l)
+        ∙ xor_mod byte mask 5 ∙ ap (bit_xor (byte % 2 ^ 5)) none ∙ xor_zero_r (byte % 2 ^ 5) ∙ ap (λ j. slice_index xs j % 2 ^ 5) (sym e)
+    | inr ne ↦ ap (λ x. x % 2 ^ 5) (get_or-set_other xs (k / 8) 21 (bit_xor byte mask) 0 ne)
+  ]
+
+  bytes_kept : ((j : ℕ) → slice_index xs j < 256) → (j : ℕ) → slice_index (with_place_changed k xs) j < 256
+  bytes_kept small j = elim (cases_eq j (k / 8)) [
+    | inl e ↦
+        let m_lt : mask < 2 ^ 8 = pow-lt {j = 8} (omega arith) in
+        subst (λ x. x < 256) (sym (ap (slice_index (with_place_changed k xs)) e ∙ get_or-set_same xs (k / 8) (bit_xor byte mask) 0 l))
+        (xor_lt 8 byte mask (small (k / 8)) m_lt)
+    | inr ne ↦ subst (λ x. x < 256) (sym (get_or-set_other xs (k / 8) j (bit_xor byte mask) 0 ne)) (small j)
+  ]
+
 pub one_bit_changed : (packet : List ℕ) (n : ℕ) → length packet ≡ (rate_is Full).bytes → n < (rate_is Full).bits → OneBitChanged packet n
 unfolding with_bit_changed
 one_bit_changed xs n long h =
     let k = place Full n in
     let l : k / 8 < length xs = omega arith in
+    let low : k < 171 = omega arith in
+    let size : length (with_place_changed k xs) ≡ length xs = length-set xs (k / 8) (bit_xor (slice_index xs (k / 8)) (2 ^ (7 - k % 8))) in
     record {
-      size = length-set xs (k / 8) (bit_xor (slice_index xs (k / 8)) (2 ^ (7 - k % 8)));
+      size = size;
       bit = change_here k xs l;
-      others = λ m hm ne. change_elsewhere k (place Full m) xs l (λ e. ne (omega (arith, e)));
+      others = λ j ne. change_elsewhere k j xs l ne;
       back = change_back k xs l;
+      bytes = bytes_kept k low xs l;
+      lawful = λ lawful. record {
+        length = size ∙ lawful.length;
+        spare = ap (λ x. not (x == 0)) (spare_kept k low xs l) ∙ lawful.spare;
+      };
     }
 
 -- ---- the word of a corrected packet
@@ -188,7 +229,11 @@ word_changed xs i long h =
     let law = one_bit_changed xs n long (guarded_small i h) in
     let e : number_of (listed guarded_bits ys) 29 ≡ bit_xor u m =
     number_changed (listed guarded_bits xs) (listed guarded_bits ys) 29 i (listed_lt guarded_bits xs) h law.bit
-    (λ j hj ne. law.others (slice_index guarded_bits j) (guarded_small j hj) (guarded_apart j i hj h ne)) in
+    (λ j hj ne.
+    let apart = guarded_apart j i hj h ne in
+    let low = guarded_small j hj in
+    let low' = guarded_small i h in
+    law.others (place Full (slice_index guarded_bits j)) (λ e. apart (omega arith))) in
     ap (λ w. bit_xor w inversion) e ∙ xor_assoc u m inversion ∙ ap (bit_xor u) (xor_comm m inversion) ∙ sym (xor_assoc u inversion m)
 
 pub word_corrected : (xs : List ℕ) (p : ℕ) → length xs ≡ (rate_is Full).bytes → p < 28 → word_of (corrected_packet p xs) ≡ corrected (word_of xs) p

@@ -6,6 +6,7 @@ use Rattle.cyclic.specs.Words.{corrected}
 use Rattle.packet_layout.specs.Guarded.{guarded_bits}
 use Rattle.packet_layout.specs.Laws.{place}
 use Rattle.packet.specs.Bits.{bit_at}
+use Rattle.packet.specs.Calls.{Lawful}
 use Rattle.packet.specs.CheckBits.{word_of}
 
 -- the bit of a packet by its number, 170 to 0; bit 170 is the top bit of byte 0
@@ -29,14 +30,15 @@ bit_of_power p = slice_index guarded_bits (27 - p)
 abbrev pub corrected_packet : ℕ → List ℕ → List ℕ
 corrected_packet p packet = with_bit_changed (bit_of_power p) packet
 
--- a packet with one bit changed: that bit is the other one, each other bit is as before, and a second change takes it
--- back
+-- a packet with one bit changed: that bit is the other one, the bit at each other place is as before, spare bits too,
+-- and a second change takes it back; bytes stay bytes, and a lawful packet stays lawful
 pub record OneBitChanged (packet : List ℕ) (n : ℕ) : Type 0 where
   pub size : length (with_bit_changed n packet) ≡ length packet
   pub bit : packet_bit n (with_bit_changed n packet) ≡ bit_xor (packet_bit n packet) 1
-  pub others :
-      (m : ℕ) → m < (rate_is Full).bits → m ≢ n → packet_bit m (with_bit_changed n packet) ≡ packet_bit m packet
+  pub others : (k : ℕ) → k ≢ place Full n → bit_at (with_bit_changed n packet) k ≡ bit_at packet k
   pub back : with_bit_changed n (with_bit_changed n packet) ≡ packet
+  pub bytes : ((j : ℕ) → slice_index packet j < 256) → (j : ℕ) → slice_index (with_bit_changed n packet) j < 256
+  pub lawful : Lawful Full packet → Lawful Full (with_bit_changed n packet)
 
 -- each bit of a packet can be changed so, and to correct a packet is to correct its word
 pub record BitsChange : Type 0 where

@@ -2,8 +2,8 @@ pub mod Codes
 pub mod Bits
 pub mod Reading
 pub mod CheckBits
-pub mod Changes
 pub mod Calls
+pub mod Changes
 pub mod Unpacking
 pub mod Laws
 pub mod OneAnswer

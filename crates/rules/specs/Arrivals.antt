@@ -32,27 +32,32 @@ unfoldable pub are_lawful : List Arrival → Bool
 are_lawful [] = true
 are_lawful (a ∷ list) = is_lawful a && are_lawful list
 
--- ---- an arrival of the category of a number, and of bytes
+-- ---- an arrival is made
 
--- the arrival that they make, if they make one
-abbrev pub arrival_made : ℕ → List ℕ → Arrival
-arrival_made c bytes = record { category = category_of c; bytes = bytes }
+-- what the packet of a category is faulted for, at the place that the caller names; the tests are made in the order 6,
+-- 9
+abbrev pub PacketFault : ℕ → Category → List ℕ → Fault → Type 0
+PacketFault place c bytes (Length i) = (i ≡ place) × (wrong_length c (length bytes) ≡ true)
+PacketFault place c bytes (SpareBits i) =
+    (i ≡ place) × (wrong_length c (length bytes) ≡ false) × (spare_bits_set c bytes ≡ true)
+PacketFault place c bytes _ = ⊥
 
--- What they are faulted for, at the place that the caller names. The tests are made in the order 5, 6, 9, and the first
--- that fails is given.
-abbrev pub ArrivalFault : (place c : ℕ) → List ℕ → Fault → Type 0
-ArrivalFault place c bytes (UnknownCategory i) = (i ≡ place) × (unknown_category c ≡ true)
-ArrivalFault place c bytes (Length i) =
-    (i ≡ place) × (unknown_category c ≡ false) × (wrong_length (category_of c) (length bytes) ≡ true)
-ArrivalFault place c bytes (SpareBits i) =
-    (i ≡ place) × (unknown_category c ≡ false) × (wrong_length (category_of c) (length bytes) ≡ false)
-    × (spare_bits_set (category_of c) bytes ≡ true)
-ArrivalFault place c bytes _ = ⊥
+-- what a category and bytes make: the lawful arrival, or a fault. What is made is shown plain by a map of the caller's.
+abbrev pub MakesPacket : {A : Type 0} → (A → Arrival) → ℕ → Category → List ℕ → Result A Fault → Type 0
+MakesPacket plain place c bytes (Ok a) =
+    (plain a ≡ record { category = c; bytes = bytes }) × (is_lawful (plain a) ≡ true)
+MakesPacket plain place c bytes (Err fault) = PacketFault place c bytes fault
 
--- what they make: a lawful arrival, or a fault
-abbrev pub MakesArrival : (place c : ℕ) → List ℕ → Result Arrival Fault → Type 0
-MakesArrival place c bytes (Ok a) = (unknown_category c ≡ false) × (a ≡ arrival_made c bytes) × (is_lawful a ≡ true)
-MakesArrival place c bytes (Err fault) = ArrivalFault place c bytes fault
+-- what the number of a category and bytes are faulted for; the tests are made in the order 5, 6, 9
+abbrev pub ArrivalFault : ℕ → ℕ → List ℕ → Fault → Type 0
+ArrivalFault place n bytes (UnknownCategory i) = (i ≡ place) × (unknown_category n ≡ true)
+ArrivalFault place n bytes fault = (unknown_category n ≡ false) × PacketFault place (category_of n) bytes fault
+
+-- what they make
+abbrev pub MakesArrival : {A : Type 0} → (A → Arrival) → ℕ → ℕ → List ℕ → Result A Fault → Type 0
+MakesArrival plain place n bytes (Ok a) =
+    (unknown_category n ≡ false) × MakesPacket plain place (category_of n) bytes (Ok a)
+MakesArrival plain place n bytes (Err fault) = ArrivalFault place n bytes fault
 
 -- ---- supplies
 

@@ -35,10 +35,8 @@ pub record Taken : Type 0 where
 
 -- the receiver after it read an arrival with this letter
 abbrev pub receiver_after : Letter → Option Reading → Receiver → Receiver
-receiver_after l x e = record {
-  memories = after e.memories (event_read l x ∷ []);
-  pitch = pitch_after l x e.pitch;
-}
+receiver_after l x e =
+    record e { memories = after e.memories (event_read l x ∷ []); pitch = pitch_after l x e.pitch }
 
 -- a receiver e reads the arrival that it was handed, and answers the frequencies of its memories after it
 pub record Receives (e : Receiver) (x : Taken) (e' : Receiver) : Type 0 where

@@ -1,14 +1,16 @@
 -- A link, and what each call on its parts does. Of each call one relation says what it answers, and the parts after it;
 -- the case of a refusal names the tests that were passed before it.
-use Rattle.std.specs.Prelude.{◌≡◌, ◌≢◌, ℕ, ◌-◌, ◌<◌, ◌≤◌, true, List, [], ◌∷◌, ◌++◌, length, set, Ok, Err, Option}
+use Rattle.std.specs.Prelude.{◌≡◌, ◌≢◌, ℕ, ◌-◌, true, List, [], ◌∷◌, ◌++◌, set, Ok, Err, Option}
 use Rattle.std.specs.Prelude.{Result}
 use Rattle.service.specs.declared.rates.Rate.{Rate}
 use Rattle.service.specs.declared.refusals.Refusal.{Refusal}
 use Rattle.service.specs.declared.refusals.Refusal.TheVariants.{Faulty, LineFull, NoArrival, Codes}
+use Rattle.service.specs.Categories.{category_of}
+use Rattle.service.specs.Queues.{HasRoom, IsFull, Waits, places_in}
 use Rattle.service.specs.Rates.{rate_is}
-use Rattle.rules.specs.Arrivals.{Arrival, ArrivalFault, MakesArrival, are_bytes, arrival_made, blank_arrival}
+use Rattle.rules.specs.Arrivals.{Arrival, ArrivalFault, MakesArrival, are_bytes, blank_arrival}
 use Rattle.rules.specs.Readings.{lowered}
-use Rattle.rules.specs.Ends.{Receiver, Sender, Taken, Takes}
+use Rattle.rules.specs.Ends.{Receiver, Sender, Taken, Takes, new_receiver, new_sender}
 use Rattle.rules.specs.Sending.{AreComplete, CodesFrame, CodingRefused, Parameters, Sent, arrival_sent, sender_after}
 
 -- a line: the arrivals that wait on it, the oldest first, and how many places it has for them
@@ -28,28 +30,34 @@ pub record Link : Type 0 where
   pub receiver : Receiver
   pub source : Source
 
--- a place of the line is free
-abbrev pub HasRoom : Line → Type 0
-HasRoom line = length line.waiting < line.places
+-- a line in a memory of n places, on which nothing waits
+abbrev pub empty_line : ℕ → Line
+empty_line n = record { waiting = []; places = places_in n }
 
--- no place of the line is free
-abbrev pub IsFull : Line → Type 0
-IsFull line = line.places ≤ length line.waiting
+-- the link that is made of a line and a source: both ends are new
+abbrev pub new_link : Line → Source → Link
+new_link line source = record { sender = new_sender; line = line; receiver = new_receiver; source = source }
 
 -- the line with one arrival more, behind those that wait
 abbrev pub with_last : Arrival → Line → Line
 with_last a line = record line { waiting = line.waiting ++ (a ∷ []) }
 
+-- an arrival is put behind those that wait, or it is refused with 14 alone, as no place is free
+abbrev pub Adds : Line → Arrival → Result Unit Refusal → Line → Type 0
+Adds line a (Ok u) line' = HasRoom line.places line.waiting × (line' ≡ with_last a line)
+Adds line a (Err LineFull) line' = IsFull line.places line.waiting × (line' ≡ line)
+Adds line a (Err _) line' = ⊥
+
 -- ---- send
 
 -- the number names a rate and the line has room; so the parameters are coded at this rate
 abbrev pub Ready : Line → ℕ → Rate → Type 0
-Ready line n rate = ((rate_is rate).number ≡ n) × HasRoom line
+Ready line n rate = ((rate_is rate).number ≡ n) × HasRoom line.places line.waiting
 
 -- the tests are made in the order 17, 14, and then those of coding
 abbrev pub SendRefused : Sender → Line → ℕ → Parameters → Refusal → Type 0
 SendRefused e line n p Codes = (rate : Rate) → (rate_is rate).number ≢ n
-SendRefused e line n p LineFull = ((rate : Rate) × ((rate_is rate).number ≡ n)) × IsFull line
+SendRefused e line n p LineFull = ((rate : Rate) × ((rate_is rate).number ≡ n)) × IsFull line.places line.waiting
 SendRefused e line n p refusal = (rate : Rate) × Ready line n rate × CodingRefused rate p e refusal
 
 -- an accepted send: the packet joins the line
@@ -80,27 +88,26 @@ sender_after_blank e = record e { pitch = lowered e.pitch }
 
 -- what a blank answers, with the sender and the line after it; it can be refused with 14 alone
 abbrev pub Blanks : Sender → Line → Result Unit Refusal → Sender → Line → Type 0
-Blanks e line (Ok u) e' line' = HasRoom line × (e' ≡ sender_after_blank e) × (line' ≡ with_last blank_arrival line)
-Blanks e line (Err LineFull) e' line' = IsFull line × (e' ≡ e) × (line' ≡ line)
-Blanks e line (Err _) e' line' = ⊥
+Blanks e line (Ok u) e' line' = Adds line blank_arrival (Ok u) line' × (e' ≡ sender_after_blank e)
+Blanks e line (Err refusal) e' line' = Adds line blank_arrival (Err refusal) line' × (e' ≡ e)
 
 -- ---- disturb
 
--- an arrival of this number waits, the oldest of which is 1
-abbrev pub Waits : Line → ℕ → Type 0
-Waits line n = (1 ≤ n) × (n ≤ length line.waiting)
-
 -- the tests are made in the order 15, 5, 6, 9; the last three name the arrival
 abbrev pub DisturbRefused : Line → ℕ → ℕ → List ℕ → Refusal → Type 0
-DisturbRefused line n c bytes NoArrival = Waits line n → ⊥
-DisturbRefused line n c bytes (Faulty fault) = Waits line n × ArrivalFault n c bytes fault
+DisturbRefused line n c bytes NoArrival = Waits line.waiting n → ⊥
+DisturbRefused line n c bytes (Faulty fault) = Waits line.waiting n × ArrivalFault n c bytes fault
 DisturbRefused line n c bytes _ = ⊥
+
+-- the arrival that a disturb puts on the line
+abbrev pub arrival_put : ℕ → List ℕ → Arrival
+arrival_put c bytes = record { category = category_of c; bytes = bytes }
 
 -- an accepted disturb: the waiting arrival is replaced by the one that the number of a category and the bytes make
 pub record DisturbAccepted (line : Line) (n c : ℕ) (bytes : List ℕ) (line' : Line) : Type 0 where
-  pub waits : Waits line n
-  pub made : MakesArrival n c bytes (Ok (arrival_made c bytes))
-  pub line_after : line' ≡ record line { waiting = set line.waiting (n - 1) (arrival_made c bytes) }
+  pub waits : Waits line.waiting n
+  pub made : MakesArrival (λ a. a) n c bytes (Ok (arrival_put c bytes))
+  pub line_after : line' ≡ record line { waiting = set line.waiting (n - 1) (arrival_put c bytes) }
 
 -- what a disturb answers, with the line after it
 abbrev pub Disturbs : Line → ℕ → ℕ → List ℕ → Result Unit Refusal → Line → Type 0

@@ -3,9 +3,9 @@ use Rattle.std.specs.Prelude.{◌≡◌, ℕ, ℤ, ◌+◌, ◌<◌, ◌≤◌, 
 use Rattle.std.specs.Prelude.{codes, decimal, drop, length}
 use Rattle.std.specs.Fmt.{signed_decimal}
 use Rattle.service.specs.declared.refusals.Refusal.{Refusal}
-use Rattle.service.specs.declared.refusals.Refusal.TheVariants.{ShortBuffer, UnlawfulReel}
+use Rattle.service.specs.declared.refusals.Refusal.TheVariants.{ShortBuffer}
 use Rattle.service.specs.Letters.{letter_is}
-use Rattle.service.specs.Refusals.{Answer, refusal_is, refused}
+use Rattle.service.specs.Refusals.{Answer, refused}
 use Rattle.service.specs.Texts.{refused_text}
 use Rattle.rules.specs.Arrivals.{Arrival}
 use Rattle.rules.specs.Reels.{arrivals_of}
@@ -20,7 +20,7 @@ unfoldable pub frequencies_text : List ℤ → List ℕ
 frequencies_text [] = []
 frequencies_text (f ∷ fs) = codes ";" ++ (signed_decimal f ++ frequencies_text fs)
 
--- each code of CBGAIN, one after another; each is one digit
+-- codes of CBGAIN in decimal, one after another; each that was read is one digit
 unfoldable pub digits_text : List ℕ → List ℕ
 digits_text [] = []
 digits_text (c ∷ cs) = decimal c ++ digits_text cs
@@ -37,8 +37,8 @@ row_text frame row =
     ++ (codes ";" ++ (cbgain_text row.cbgain ++ codes "\n")))))
 
 -- the line of a refusal, by its number alone
-abbrev pub refusal_line : Refusal → List ℕ
-refusal_line refusal = refused_text (refused (refusal_is refusal).number) ++ codes "\n"
+abbrev pub refusal_line : ℕ → List ℕ
+refusal_line number = refused_text (refused number) ++ codes "\n"
 
 -- A text is written from a buffer's start, the rest of the buffer is kept, and the text's length is answered; refusal
 -- 16 exactly if the buffer is shorter than the text, and then it is as it was.
@@ -58,7 +58,7 @@ rows_text n (row ∷ rows) = row_text n row ++ rows_text (n + 1) rows
 -- line of refusal 18 and no header
 abbrev pub PageOf : Result (List Arrival) Answer → List ℕ → Type 0
 PageOf (Ok supply) text = (rows : List Row) × PageRows supply rows × (text ≡ header_text ++ rows_text 1 rows)
-PageOf (Err cause) text = text ≡ refusal_line UnlawfulReel
+PageOf (Err cause) text = text ≡ refusal_line 18
 
 -- the page of a reel of these bytes
 abbrev pub PageText : List ℕ → List ℕ → Type 0

@@ -40,8 +40,8 @@ pub record ReadsCodes (q : Rate) (bytes : List ℕ) (r : Reading) : Type 0 where
   pub codebooks : DecodesCodebooks q r.codes.codebook r.codebooks
 
 -- read with this letter, and with the pitch of the codes
-abbrev pub IsRead : Letter → Rate → List ℕ → Letter → Option Reading → Type 0
-IsRead letter rate bytes l x =
+abbrev pub IsReadWithPitch : Letter → Rate → List ℕ → Letter → Option Reading → Type 0
+IsReadWithPitch letter rate bytes l x =
     (l ≡ letter)
     × MatchOption x ⊥ (λ r. ReadsCodes rate bytes r × DecodesPitches rate r.codes.pitch r.pitches)
 
@@ -76,11 +76,11 @@ ReadsSuspectNot bytes l x =
 abbrev pub Reads : Category → List ℕ → Letter → Option Reading → Type 0
 Reads Blank bytes l x = IsNotRead B l x
 Reads Eighth bytes l x =
-    (AllOnes Rate1/8 bytes × IsNotRead D l x) ⊎ ((AllOnes Rate1/8 bytes → ⊥) × IsRead C Rate1/8 bytes l x)
-Reads Quarter bytes l x = IsRead C Rate1/4 bytes l x
-Reads Half bytes l x = IsRead C Rate1/2 bytes l x
+    (AllOnes Rate1/8 bytes × IsNotRead D l x) ⊎ ((AllOnes Rate1/8 bytes → ⊥) × IsReadWithPitch C Rate1/8 bytes l x)
+Reads Quarter bytes l x = IsReadWithPitch C Rate1/4 bytes l x
+Reads Half bytes l x = IsReadWithPitch C Rate1/2 bytes l x
 Reads Full bytes l x =
-    ((syndrome (word_of bytes) ≡ 0) × IsRead C Rate1 bytes l x)
+    ((syndrome (word_of bytes) ≡ 0) × IsReadWithPitch C Rate1 bytes l x)
     ⊎ ((syndrome (word_of bytes) ≢ 0) × IsNotRead D l x)
 Reads Suspect bytes l x =
     ReadsSuspectAsItCame bytes l x ⊎ (ReadsSuspectCorrected bytes l x ⊎ ReadsSuspectNot bytes l x)

@@ -78,15 +78,16 @@ pub record RunsTakes (wanted places : ℕ) (s : RunState) (a : RunAnswer) (t : R
 
 -- ---- a page
 
--- What the page call does with the arrivals of a reel, or with the answer to its first test that fails: it answers
--- these arrivals as those to come, and the receiver is restarted; or refusal 18, whatever the cause, and the receiver
--- is as it was.
-abbrev pub StartsPage : Result (List Arrival) Answer → Receiver → Result (List Arrival) Refusal → Receiver → Type 0
-StartsPage (Ok list) e (Ok supply) e' = (supply ≡ list) × (e' ≡ new_receiver)
-StartsPage (Ok list) e (Err _) e' = ⊥
-StartsPage (Err cause) e (Ok supply) e' = ⊥
-StartsPage (Err cause) e (Err UnlawfulReel) e' = e' ≡ e
-StartsPage (Err cause) e (Err _) e' = ⊥
+-- What the page call does with the arrivals of a reel, or with the answer to its first test that fails: it answers a
+-- supply of these arrivals, and the receiver is restarted; or refusal 18, whatever the cause, and the receiver is as it
+-- was. What is still to come of a supply is shown by a map of the caller's.
+abbrev pub StartsPage :
+    {S : Type 0} → (S → List Arrival) → Result (List Arrival) Answer → Receiver → Result S Refusal → Receiver → Type 0
+StartsPage to_come (Ok list) e (Ok supply) e' = (to_come supply ≡ list) × (e' ≡ new_receiver)
+StartsPage to_come (Ok list) e (Err _) e' = ⊥
+StartsPage to_come (Err cause) e (Ok supply) e' = ⊥
+StartsPage to_come (Err cause) e (Err UnlawfulReel) e' = e' ≡ e
+StartsPage to_come (Err cause) e (Err _) e' = ⊥
 
 -- the rows of the page of a reel whose arrivals these are: a restarted receiver takes them all
 abbrev pub PageRows : List Arrival → List Row → Type 0

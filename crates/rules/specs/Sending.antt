@@ -6,7 +6,6 @@ use Rattle.service.specs.declared.rates.Rate.TheVariants.{Full, Half, Quarter, E
 use Rattle.service.specs.declared.refusals.Refusal.{Refusal}
 use Rattle.service.specs.declared.refusals.Refusal.TheVariants.{Frequency, Pitch, Codebook, Draws}
 use Rattle.service.specs.Categories.{category_of_packet}
-use Rattle.service.specs.Rates.{rate_is}
 use Rattle.service.specs.Refusals.{refusal_is}
 use Rattle.lsp.specs.Histories.{after, packet as packet_event}
 use Rattle.lsp.specs.Offsets.{FrequenciesAllowed, RefusesFrequencies, offsets}
