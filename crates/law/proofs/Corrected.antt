@@ -24,7 +24,7 @@ use Rattle.packet.specs.Codes.{Within, in_order}
 use Rattle.packet.proofs.Packets.{each_bit}
 use Rattle.packet.proofs.Trips.{guarded_word, unpacking_returns}
 use Rattle.rules.specs.Arrivals.{is_lawful}
-use Rattle.law.proofs.Sent.{are_bytes_of, lawful_of}
+use Rattle.rules.proofs.Lawful.{are_bytes_of, lawful_of}
 use Rattle.packet.proofs.Changed.{change_elsewhere, guarded_small, one_bit_changed, word_changed, word_corrected}
 use Rattle.packet.specs.Changes.{bit_of_power, corrected_packet, with_bit_changed}
 

@@ -26,3 +26,4 @@ pub mod OneRun
 pub mod Sessions
 pub mod Delivers
 pub mod Listing
+pub mod ReadAsSent

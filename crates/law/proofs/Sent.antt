@@ -1,12 +1,10 @@
 -- What an accepted send sends: codes of its rate, and their packet, which is lawful.
-use Rattle.std.proofs.Common.{◌≡◌, ℕ, zero, suc, ◌^◌, ◌<◌, true, false, nat_lt, ◌==◌, List, [], ◌∷◌, length, slice_index, ℤ, refl, sym, ap, ◌∙◌, subst, arith}
-use Rattle.std.proofs.lemmas.Bool.Decides.{nat_tests}
+use Rattle.std.proofs.Common.{◌≡◌, ℕ, zero, suc, ◌^◌, ◌<◌, true, List, [], ◌∷◌, length, ℤ, refl, sym, ap, ◌∙◌, subst, arith}
 use Rattle.std.proofs.lemmas.Nat.{pow_pos}
 use Rattle.service.specs.declared.rates.Rate.{Rate}
 use Rattle.service.specs.declared.rates.Rate.TheVariants.{Full, Half, Quarter, Eighth}
 use Rattle.service.specs.Categories.{category_is, category_of}
 use Rattle.service.specs.Rates.{rate_is}
-use Rattle.service.specs.Tests.{spare_bits_set}
 use Rattle.lsp.specs.Quantizers.{Within as LspWithin}
 use Rattle.lsp.proofs.Ranges.{quantized_within}
 use Rattle.lsp.specs.Ten.{ten}
@@ -19,7 +17,8 @@ use Rattle.packet.proofs.Numbers.{bit_lt}
 use Rattle.packet.proofs.Packets.{each_bit}
 use Rattle.packet.proofs.Trips.{unpacking_returns}
 use Rattle.figures.proofs.Frames.{encoded_codes_fit}
-use Rattle.rules.specs.Arrivals.{are_bytes, is_lawful}
+use Rattle.rules.specs.Arrivals.{is_lawful}
+use Rattle.rules.proofs.Lawful.{are_bytes_of, lawful_of}
 use Rattle.rules.specs.Sending.{CodesFrame, DrawsCbseed, Encodes, Parameters, Sent, arrival_sent, cbseed_of, drawn}
 use Rattle.rules.specs.Ends.{Sender}
 use Rattle.law.proofs.Steps.{lsp_bits, top_is}
@@ -75,17 +74,6 @@ pub sent_bytes : (q : Rate) (p : Parameters) (e : Sender) (f : Sent) → CodesFr
 sent_bytes q p e f a = a.bytes ∙ ap (λ r. packet r f.codes) (sym a.rate)
 
 -- ---- its packet
-
-pub are_bytes_of : (xs : List ℕ) → ((j : ℕ) → slice_index xs j < 256) → are_bytes xs ≡ true
-unfolding are_bytes
-are_bytes_of [] h = refl
-are_bytes_of (x ∷ xs) h = let a : nat_lt x 256 ≡ true = (let l = h 0 in grind (arith, nat_tests)) in let b = are_bytes_of xs (λ j. h (suc j)) in rw (a, b) refl
-
-pub lawful_of : (category : _) (bytes : List ℕ) → length bytes ≡ (category_is category).bytes → spare_bits_set category bytes ≡ false → are_bytes bytes ≡ true
-    → is_lawful (record { category = category; bytes = bytes }) ≡ true
-lawful_of category bytes long spare each =
-    let size : (length bytes == (category_is category).bytes) ≡ true = grind (arith, nat_tests) in
-    rw (size, spare, each) refl
 
 category_bytes : (rate : Rate) → (category_is (category_of (rate_is rate).number)).bytes ≡ (rate_is rate).bytes
 category_bytes Full = refl

@@ -1,15 +1,18 @@
 -- Every call has an answer on every input, and only one.
 use Rattle.std.specs.Prelude.{◌≡◌, ℕ, true, is_some, List, ◌++◌, map, reverse, Ok, Some, Option, Result}
 use Rattle.service.specs.declared.categories.Category.{Category}
+use Rattle.service.specs.declared.rates.Rate.{Rate}
 use Rattle.service.specs.declared.readings.Letter.{Letter}
+use Rattle.service.specs.declared.readings.Letter.TheVariants.{C}
 use Rattle.service.specs.declared.refusals.Fault.{Fault}
 use Rattle.service.specs.declared.refusals.Refusal.{Refusal}
 use Rattle.service.specs.Letters.{is_read}
 use Rattle.service.specs.Refusals.{Answer}
+use Rattle.figures.specs.FrameLaws.{FiguresReadAsSent, PairsReadAsSent}
 use Rattle.rules.specs.Arrivals.{Arrival, MakesArrival, are_bytes}
 use Rattle.rules.specs.Readings.{Reading, Reads}
 use Rattle.rules.specs.Ends.{Receiver, Sender, Taken, Takes}
-use Rattle.rules.specs.Sending.{AreComplete, Parameters}
+use Rattle.rules.specs.Sending.{AreComplete, CodesFrame, Parameters, Sent, arrival_sent}
 use Rattle.rules.specs.Links.{Line, Link, SendAnswers, link_after_take, to_come}
 use Rattle.rules.specs.Pages.{PageText}
 use Rattle.rules.specs.Rows.{PageRows, Row, RunAnswer, RunState, RunsTakes, StartsPage, TakesAll}
@@ -143,3 +146,19 @@ pub record OnePage : Type 0 where
       (supply : List Arrival) (rows rows' : List Row) → PageRows supply rows → PageRows supply rows' → rows ≡ rows'
   pub text : (bytes : List ℕ) → (text : List ℕ) × PageText bytes text
   pub only_text : (bytes text text' : List ℕ) → PageText bytes text → PageText bytes text' → text ≡ text'
+
+-- ---- what was sent is read
+
+-- what a send put on the line is read, with letter C and as it was sent: the rate, the codes, and the pairs and figures of
+-- the rate's subframes
+pub record ReadAsSent (q : Rate) (p : Parameters) (f : Sent) : Type 0 where
+  pub reading : Reading
+  pub read : Reads (arrival_sent f).category (arrival_sent f).bytes C (Some reading)
+  pub rate : reading.rate ≡ q
+  pub codes : reading.codes ≡ f.codes
+  pub pitches : PairsReadAsSent q p.pitches reading.pitches
+  pub codebooks : FiguresReadAsSent q p.codebooks reading.codebooks
+
+-- every frame that a sender codes is, if nothing disturbs it
+abbrev pub SentIsReadAsSent : Type 0
+SentIsReadAsSent = (q : Rate) (p : Parameters) (e : Sender) (f : Sent) → CodesFrame q p e f → ReadAsSent q p f

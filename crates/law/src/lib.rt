@@ -2,7 +2,7 @@
 //! one answer, sessions of commands, and worked examples. Each function here carries a theorem.
 #![tactic(auto)]
 
-ghost use Rattle.law.specs.Answers.{ChainOfTakesIsARun, ChainsOfTakesJoin, EachTakeIsACall, OneAnswerToEachCall, OneAnswerToEachRunOfTakes, OneArrivalOrFault, OnePage, OneReadingOfEachArrival, OneSendAnswer};
+ghost use Rattle.law.specs.Answers.{ChainOfTakesIsARun, ChainsOfTakesJoin, EachTakeIsACall, OneAnswerToEachCall, OneAnswerToEachRunOfTakes, OneArrivalOrFault, OnePage, OneReadingOfEachArrival, OneSendAnswer, SentIsReadAsSent};
 ghost use Rattle.law.specs.Changes.{ChangesOfWords};
 ghost use Rattle.law.specs.Example.{ExampleRun};
 ghost use Rattle.law.specs.Keeping.{EveryRunKeeps, MadeLinksAreNew, OwnLineDelivers};
@@ -87,6 +87,12 @@ pub fn one_answer()
 #[tactic(auto, using(crate::proofs::OneSend::one_send_answer))]
 pub fn one_send_answer()
     ensures { OneSendAnswer }
+{}
+
+/// Carries a theorem: every frame that a sender codes is read, if nothing disturbs it, with letter C and with the rate, the codes,
+/// the pitch pairs and the codebook figures that were sent.
+pub fn sent_is_read_as_sent()
+    ensures { SentIsReadAsSent }
 {}
 
 /// Carries a theorem: from every link each list of complete commands has exactly one run.
