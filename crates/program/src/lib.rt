@@ -1,10 +1,15 @@
-//! How the programs of this repository end.
+//! What the programs of this repository have in common: what their words ask, their input and output, and how they end.
 #![tactic(auto)]
+
+mod command_line;
+mod streams;
 
 ghost use Rattle.std.specs.Prelude.{◌≡◌, MatchResult};
 ghost use Rattle.std.specs.Process.{exit_status};
 
+pub use command_line::{Asked, UsageError};
 use std::process::ExitCode;
+pub use streams::{read_up_to, unreadable, unwritable};
 
 /// The status of a program: 0, or 1 for an error, which is printed on standard error as one sentence under the program's name.
 pub fn exit_code(rt: &impl Eprint, name: &str, outcome: anyhow::Result<()>) -> ExitCode
@@ -18,3 +23,6 @@ pub fn exit_code(rt: &impl Eprint, name: &str, outcome: anyhow::Result<()>) -> E
         }
     }
 }
+
+#[cfg(test)]
+mod tests;
