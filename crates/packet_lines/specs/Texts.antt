@@ -1,7 +1,7 @@
 -- What is printed of codes, of a packet and of an unreadable line, byte by byte.
-use Rattle.std.specs.Prelude.{ℕ, List, [], ◌∷◌, ◌++◌, codes, decimal, map}
+use Rattle.std.specs.Prelude.{ℕ, List, ◌++◌, codes, decimal, map}
 use Rattle.std.specs.List.{flat_map, join_with_byte}
-use Rattle.hex.specs.Hex.{encode_lower}
+pub use Rattle.packet_hex.specs.Texts.{packet_text}
 use Rattle.packet.specs.declared.codes.CodeNumbers.{CodeNumbers}
 use Rattle.packet.specs.Codes.{in_order}
 use Rattle.packet_lines.specs.declared.reasons.ReadError.{ReadError}
@@ -16,11 +16,6 @@ spaced ns = flat_map (λ n. codes " " ++ decimal n) ns
 -- the 35 codes in decimal and in order, with one space between
 abbrev pub codes_text : CodeNumbers → List ℕ
 codes_text c = join_with_byte 32 (map decimal (in_order c))
-
--- two digits for each byte, and a hyphen for none
-abbrev pub packet_text : List ℕ → List ℕ
-packet_text [] = codes "-"
-packet_text (b ∷ bs) = encode_lower (b ∷ bs)
 
 -- why a line asks for nothing
 abbrev pub reason_text : Unreadable → List ℕ

@@ -1,9 +1,10 @@
 //! The text of codes and of packets.
 ghost use Rattle.std.specs.Prelude.{◌≡◌, ◌<◌, IfOk, Some, decimal, length, map, string_bytes};
 ghost use Rattle.std.specs.List.{join_with_byte};
-ghost use Rattle.packet_lines.specs.Texts.{codes_text, packet_text, spaced};
+ghost use Rattle.packet_lines.specs.Texts.{codes_text, spaced};
 
 use packet::CodeNumbers;
+pub use packet_hex::packet_text;
 use std::alloc::{AllocError, Global};
 use std::fmt;
 
@@ -23,16 +24,6 @@ fn joined(heap: Global, numbers: &[u8]) -> Result<String, AllocError>
     let first = numbers[0];
     let others = Spaced(&numbers[1..]);
     format!(in heap; "{first}{others}")
-}
-
-/// The bytes of a packet, two lower-case hexadecimal digits each, or a hyphen for none.
-pub fn packet_text(heap: Global, packet: &[u8]) -> Result<String, AllocError>
-    ensures { IfOk result (λ s. string_bytes s ≡ packet_text packet.now) }
-{
-    if packet.is_empty() {
-        return String::from_str(heap, "-");
-    }
-    hex::encode(heap, packet)
 }
 
 /// Numbers, each behind a space.

@@ -1,8 +1,7 @@
 -- The text of a checked reel, byte by byte: a line for each record and a verdict.
-use Rattle.std.specs.Prelude.{ℕ, zero, suc, ◌/◌, ◌%◌, false, List, [], ◌∷◌, ◌++◌, Some, None, Ok, Err, codes, decimal}
+use Rattle.std.specs.Prelude.{ℕ, zero, suc, List, [], ◌++◌, Some, None, Ok, Err, codes, decimal}
 use Rattle.std.specs.Prelude.{Option, Result}
-use Rattle.std.specs.Fmt.{digit_glyph}
-use Rattle.std.specs.List.{flat_map}
+use Rattle.packet_hex.specs.Texts.{packet_text}
 use Rattle.service.specs.declared.refusals.Fault.{Fault}
 use Rattle.service.specs.Refusals.{Answer, fault_is}
 use Rattle.service.specs.Texts.{category_text, refused_text}
@@ -10,25 +9,9 @@ use Rattle.reel.specs.Layout.{count, category_at, packet_of}
 use Rattle.reel.specs.Records.{RecordValues, record_of}
 use Rattle.reel.specs.Tests.{fault}
 
--- a digit below 16, in lower case
-abbrev pub hex_digit : ℕ → ℕ
-hex_digit d = digit_glyph false d
-
-abbrev pub hex_byte : ℕ → List ℕ
-hex_byte b = hex_digit (b / 16) ∷ hex_digit (b % 16) ∷ []
-
--- two digits for each byte
-abbrev pub hex_text : List ℕ → List ℕ
-hex_text bs = flat_map hex_byte bs
-
--- a hyphen stands for no bytes
-abbrev pub bytes_text : List ℕ → List ℕ
-bytes_text [] = codes "-"
-bytes_text (b ∷ bs) = hex_text (b ∷ bs)
-
 -- number;what it is;its bytes
 abbrev pub record_text : ℕ → RecordValues → List ℕ
-record_text n v = decimal n ++ (codes ";" ++ (category_text v.category ++ (codes ";" ++ bytes_text v.bytes)))
+record_text n v = decimal n ++ (codes ";" ++ (category_text v.category ++ (codes ";" ++ packet_text v.bytes)))
 
 -- the answer of a check: a reel with no fault is lawful
 abbrev pub answer_text : Option Answer → List ℕ

@@ -8,8 +8,9 @@ ghost use Rattle.reel.specs.Reels.{bytes_of};
 ghost use Rattle.reel.specs.Tests.{fault};
 ghost use Rattle.service.specs.Refusals.{fault_is};
 ghost use Rattle.service.specs.Texts.{refused_text};
-ghost use Rattle.reel_text.specs.Text.{answer_text, bytes_text, hex_byte, record_text, record_lines, reel_text, verdict_text};
+ghost use Rattle.reel_text.specs.Text.{answer_text, record_text, record_lines, reel_text, verdict_text};
 
+use packet_hex::packet_text;
 use reel::{Record, Reel};
 use service::Fault;
 use std::alloc::{AllocError, Global};
@@ -33,8 +34,9 @@ pub fn listing(heap: Global, bytes: &[u8]) -> Result<String, AllocError>
 pub fn record_text(heap: Global, number: usize, item: Record<'_>) -> Result<String, AllocError>
     ensures { IfOk result (λ s. string_bytes s ≡ record_text number (record_is item.entry)) }
 {
-    let row = Row { number, item };
-    format!(in heap; "{row}")
+    let category = item.category();
+    let bytes = packet_text(heap, item.bytes())?;
+    format!(in heap; "{number};{category};{bytes}")
 }
 
 /// The text of the verdict on a reel: how many records it has, or its fault.
@@ -70,10 +72,7 @@ fn record_lines(heap: Global, reel: &Reel<'_>) -> Result<String, AllocError>
 {
     let mut text = String::new(heap);
     for (k, item) in reel.iter().enumerate() {
-        let row = Row {
-            number: k + 1,
-            item,
-        };
+        let row = record_text(heap, k + 1, item)?;
         writeln!(text, "{row}")?;
     }
     Ok(text)
@@ -92,59 +91,6 @@ impl fmt::Display for Verdict {
             Ok(count) => write!(f, "ok {count}"),
             Err(fault) => fault.fmt(f),
         }
-    }
-}
-
-/// A record under its number.
-#[derive(Clone, Copy)]
-struct Row<'a> {
-    number: usize,
-    item: Record<'a>,
-}
-
-impl fmt::Display for Row<'_> {
-    ghost output = { λ row. Some (record_text row.number (record_is row.item)) };
-
-    /// Writes three columns with semicolons between them.
-    fn fmt<W: fmt::Write>(&self, f: &mut fmt::Formatter<W>) -> fmt::Result {
-        let number = self.number;
-        let category = self.item.category();
-        let bytes = Packet(self.item.bytes());
-        write!(f, "{number};{category};{bytes}")
-    }
-}
-
-/// The bytes of a packet.
-#[derive(Clone, Copy)]
-struct Packet<'a>(&'a [u8]);
-
-impl fmt::Display for Packet<'_> {
-    ghost output = { λ packet. Some (bytes_text packet.0.now) };
-
-    /// Writes two hexadecimal digits for each byte, or a hyphen for none.
-    fn fmt<W: fmt::Write>(&self, f: &mut fmt::Formatter<W>) -> fmt::Result {
-        if self.0.is_empty() {
-            return f.write_str("-");
-        }
-        for &byte in self.0 {
-            Hex(byte).fmt(f)?;
-        }
-        Ok(())
-    }
-}
-
-/// A byte in hexadecimal.
-#[derive(Clone, Copy)]
-struct Hex(u8);
-
-impl fmt::Display for Hex {
-    ghost output = { λ hex. Some (hex_byte hex.0) };
-
-    /// Writes two digits.
-    #[tactic(auto, using(std::proofs::lemmas::Fmt::hex_byte))]
-    fn fmt<W: fmt::Write>(&self, f: &mut fmt::Formatter<W>) -> fmt::Result {
-        let byte = self.0;
-        write!(f, "{byte:02x}")
     }
 }
 
