@@ -6,9 +6,9 @@ ghost use Rattle.service.specs.Rates.{rate_is};
 ghost use Rattle.lsp.specs.Quantizers.{values};
 ghost use Rattle.lsp_values.specs.Text.{row_text};
 
-use anyhow::ensure;
+use anyhow::Context;
 use lsp::{LspCodes, top_code};
-use program::exit_code;
+use program::{Asked, exit_code, unwritable};
 use service::Rate;
 use std::process::ExitCode;
 use std::{env, fmt};
@@ -28,16 +28,16 @@ fn main(rt: HostRuntime) -> ExitCode {
 }
 
 fn run(rt: &HostRuntime) -> anyhow::Result<()> {
-    // As in reel_check: a function for both would be public, and no contract can say which words a program is given.
-    if let Some(word) = env::args(rt)?.nth(1) {
-        ensure!(
-            word.as_str() == "--help",
-            "it takes no arguments but --help"
-        );
-        println!(rt; "{HELP}")?;
-        return Ok(());
+    let words: Vec<String> = env::args(rt)?.skip(1).collect(rt.alloc())?;
+    match Asked::from_words(&words, 0).context("it takes no arguments but --help")? {
+        Asked::Help => println!(rt; "{HELP}").map_err(unwritable),
+        Asked::Run => print_table(rt),
     }
-    println!(rt; "{HEADER}")?;
+}
+
+// Prints the header, and the rows rate by rate.
+fn print_table(rt: &HostRuntime) -> anyhow::Result<()> {
+    println!(rt; "{HEADER}").map_err(unwritable)?;
     for rate in [Rate::Full, Rate::Half, Rate::Quarter, Rate::Eighth] {
         print_rate(rt, rate)?;
     }
@@ -48,7 +48,7 @@ fn run(rt: &HostRuntime) -> anyhow::Result<()> {
 fn print_rate(rt: &HostRuntime, rate: Rate) -> anyhow::Result<()> {
     for code in 0..=top_code(rate) {
         let row = Row(LspCodes::new(rate, [code; 10])?);
-        println!(rt; "{row}")?;
+        println!(rt; "{row}").map_err(unwritable)?;
     }
     Ok(())
 }

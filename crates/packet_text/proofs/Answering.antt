@@ -1,7 +1,7 @@
 -- The lines of an input are answered one after another.
-use Rattle.std.proofs.Common.{◌≡◌, ℕ, ◌<◌, List, [], ◌∷◌, ◌++◌, codes, length, Option, Some, None, Ok, Result, sym, subst, ap, ◌∙◌, append_assoc}
+use Rattle.std.proofs.Common.{◌≡◌, ℕ, ◌<◌, List, [], ◌∷◌, ◌++◌, codes, length, Option, Some, None, Ok, Err, Result, sym, subst, ap, ◌∙◌, append_assoc}
 use Rattle.std.specs.Option.{IfSome}
-use Rattle.std.specs.Result.{IfOk}
+use Rattle.std.specs.Result.{IfOk, MatchResult}
 use Rattle.std.specs.Io.BufRead.{DropsThrough, drop_through, first_piece}
 use Rattle.std.specs.Io.KnownBytes.{Appends, IsAtEnd}
 use Rattle.std.proofs.lemmas.List.{append-nil}
@@ -70,6 +70,12 @@ pub finish : (input known before after : Option (List ℕ)) → IfSome input (λ
     → IfSome input (λ bytes. AnswersInput bytes before after)
 finish None known before after a end = tt
 finish (Some bytes) known before after a end = answered_all bytes known before after a end
+
+-- a result that is Ok x once its error is mapped
+pub was_ok : {X E D : Type 0} (item : Result X E) (mapped : Result X D) (x : X) (Q : E → Type 0) → mapped ≡ Ok x → ((e : E) → Q e → ⊥)
+    → MatchResult item (λ y. mapped ≡ Ok y) Q → item ≡ Ok x
+was_ok (Ok y) mapped x Q is not h = cc
+was_ok (Err e) mapped x Q is not h = absurd (not e h)
 
 pub is_next : {X E : Type 0} (view : X → List ℕ) (item : Result X E) (x : X) (byte : ℕ) (old new : Option (List ℕ)) → item ≡ Ok x → byte ≡ 10
     → IfOk item (λ y. IfSome old (λ xs. (0 < length xs) × (view y ≡ first_piece byte xs)) × DropsThrough old new byte) → IsNext (view x) old new

@@ -4,8 +4,8 @@
 ghost use Rattle.std.specs.Prelude.{IfSome, OnOk};
 ghost use Rattle.packet_text.specs.Lines.{AnswersInput, AnswersLine};
 
-use anyhow::{Context, ensure};
-use program::exit_code;
+use anyhow::Context;
+use program::{Asked, exit_code, unreadable, unwritable};
 use std::alloc::Global;
 use std::io::{BufRead, BufReader, Write};
 use std::process::ExitCode;
@@ -29,22 +29,21 @@ decimal, from 0 to 255. A packet is pairs of hexadecimal digits, or a hyphen for
 The status is 0 whatever the lines are. It is 1, with a sentence on standard error, if the input
 cannot be read, the output cannot be written, a word other than --help is given, or memory runs out.";
 
+const USAGE: &str = "it takes no arguments but --help, and reads lines from standard input";
+
 fn main(rt: HostRuntime) -> ExitCode {
     exit_code(&rt, "packet_text", run(&rt))
 }
 
 fn run(rt: &HostRuntime) -> anyhow::Result<()> {
-    // As in lsp_values: a function for both would be public, and no contract can say which words a program is given.
-    if let Some(word) = env::args(rt)?.nth(1) {
-        ensure!(
-            word.as_str() == "--help",
-            "it takes no arguments but --help, and reads lines from standard input"
-        );
-        println!(rt; "{HELP}")?;
-        return Ok(());
+    let words: Vec<String> = env::args(rt)?.skip(1).collect(rt.alloc())?;
+    match Asked::from_words(&words, 0).context(USAGE)? {
+        Asked::Help => println!(rt; "{HELP}").map_err(unwritable),
+        Asked::Run => {
+            let input = BufReader::new(rt.alloc(), rt.stdin())?;
+            answer_lines(rt.alloc(), input, &mut io::writer(rt))
+        }
     }
-    let input = BufReader::new(rt.alloc(), rt.stdin())?;
-    answer_lines(rt.alloc(), input, &mut io::writer(rt))
 }
 
 // Answers each line of an input by one line.
@@ -57,7 +56,7 @@ fn answer_lines<R: BufRead + Drop, W: Write>(
         (λ bytes. AnswersInput bytes (W.contents output.old) (W.contents output.new))) }
 {
     for line in input.split(heap, b'\n') {
-        let line = line.context("standard input cannot be read")?;
+        let line = line.map_err(unreadable)?;
         answer_line(heap, &line, output)?;
     }
     Ok(())
@@ -68,6 +67,5 @@ fn answer_line<W: Write>(heap: Global, line: &[u8], output: &mut W) -> anyhow::R
     ensures { OnOk result (AnswersLine line.now (W.contents output.old) (W.contents output.new)) }
 {
     let text = packet_lines::answer(heap, line)?;
-    writeln!(output, "{text}")?;
-    Ok(())
+    writeln!(output, "{text}").map_err(unwritable)
 }

@@ -1,1 +1,2 @@
 pub mod CommandLine
+pub mod Input

@@ -2,14 +2,16 @@
 #![tactic(auto)]
 
 mod command_line;
-mod streams;
+mod input;
 
-ghost use Rattle.std.specs.Prelude.{◌≡◌, MatchResult};
+ghost use Rattle.std.specs.Prelude.{◌≡◌, None, Some, MatchResult, codes};
+ghost use Rattle.anyhow.specs.Error.{IsContextOn, IsMadeOf};
 ghost use Rattle.std.specs.Process.{exit_status};
 
 pub use command_line::{Asked, UsageError};
+pub use input::read_up_to;
+use std::io;
 use std::process::ExitCode;
-pub use streams::{read_up_to, unreadable, unwritable};
 
 /// The status of a program: 0, or 1 for an error, which is printed on standard error as one sentence under the program's name.
 pub fn exit_code(rt: &impl Eprint, name: &str, outcome: anyhow::Result<()>) -> ExitCode
@@ -22,6 +24,20 @@ pub fn exit_code(rt: &impl Eprint, name: &str, outcome: anyhow::Result<()>) -> E
             ExitCode::FAILURE
         }
     }
+}
+
+/// The error of a standard input that cannot be read.
+pub fn unreadable(cause: io::Error) -> anyhow::Error
+    ensures { IsContextOn (IsMadeOf None) (Some (codes "standard input cannot be read")) result }
+{
+    anyhow::Error::from(cause).context("standard input cannot be read")
+}
+
+/// The error of a standard output that cannot be written.
+pub fn unwritable(cause: io::Error) -> anyhow::Error
+    ensures { IsContextOn (IsMadeOf None) (Some (codes "standard output cannot be written")) result }
+{
+    anyhow::Error::from(cause).context("standard output cannot be written")
 }
 
 #[cfg(test)]

@@ -1,8 +1,8 @@
-use Rattle.std.proofs.Common.{ap, ◌∙◌, rules}
+use Rattle.std.proofs.Common.{ap, ◌∙◌, refl, rules}
 use Rattle.std.specs.Io.Iter.{split_byte, split_known_bytes}
 use Rattle.std.specs.Vec.{vec_items}
 use Rattle.packet_text.specs.Lines.{AnswersLine}
-use Rattle.packet_text.proofs.Answering.{IsNext, start, step, finish, is_next}
+use Rattle.packet_text.proofs.Answering.{IsNext, start, step, finish, is_next, was_ok}
 use Rattle.packet_text.proofs.answer_lines.Goals as goal
 
 pub loop-line-init : goal.loop-line-init
@@ -19,7 +19,7 @@ loop-line-preserved g c =
     let old = split_known_bytes g.R.Read.remaining c.loop-line.line-iterator in
     let new = split_known_bytes g.R.Read.remaining c.next.new.self in
     let next : IsNext line old new
-    = is_next vec_items c.in-Some.line c.in_ok-line.line (split_byte c.loop-line.line-iterator) old new c.in_ok-line.ensures c.loop-line.invariant.byte gives.2 in
+    = is_next vec_items c.in-Some.line c.in_ok-line.line (split_byte c.loop-line.line-iterator) old new (was_ok c.in-Some.line _ c.in_ok-line.line _ refl (λ e h. h) c.in_ok-line.ensures.cases) c.loop-line.invariant.byte gives.2 in
     let answers : AnswersLine line (g.W.Write.contents c.loop-line.output) (g.W.Write.contents c.answer_line.new.output)
     = rw c.deref.ensures.value at c.in_ok-answer_line.ensures in
     record {
