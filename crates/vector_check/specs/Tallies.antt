@@ -1,11 +1,53 @@
--- One more case in a tally.
-use Rattle.std.specs.Prelude.{◌≡◌, ℕ, ◌+◌, ◌-◌, ◌^◌, min, Bool, true, false}
+-- How many cases of a file were compared, and how many of them are not as they should be.
+use Rattle.std.specs.Prelude.{◌≡◌, ℕ, ◌+◌, ◌⊎◌, List, [], ◌∷◌, ◌++◌, length, codes, Option, Some, None, MatchOption, string_bytes, decimal}
+use Rattle.std.specs.List.{flat_map}
 use Rattle.vector_check.specs.declared.tallies.Tally.{Tally}
+use Rattle.vector_check.specs.declared.comparing.Comparison.{Comparison}
 
--- the next number that 64 bits hold
-abbrev pub next : ℕ → ℕ
-next n = min (n + 1) (2 ^ 64 - 1)
+-- each of these lines is right, or it is not and the next of the texts names what differs in it: so there is one text,
+-- in order, for each line that is not right
+abbrev pub NamesEachWrong : (List ℕ → Type 0) → (List ℕ → List ℕ → Type 0) → List (List ℕ) → List (List ℕ) → Type 0
+NamesEachWrong IsRight Names [] texts = texts ≡ []
+NamesEachWrong IsRight Names (line ∷ lines) texts =
+    (IsRight line × NamesEachWrong IsRight Names lines texts)
+    ⊎ ((IsRight line → ⊥) × ((text : List ℕ) × (rest : List (List ℕ)) × (texts ≡ text ∷ rest) × Names line text
+    × NamesEachWrong IsRight Names lines rest))
 
-abbrev pub Counted : Tally → Bool → Tally → Type 0
-Counted old true new = (new.compared ≡ next old.compared) × (new.differ ≡ old.differ)
-Counted old false new = (new.compared ≡ next old.compared) × (new.differ ≡ next old.differ)
+-- all of these lines are counted, and those that are not right are counted and named, a line for each
+pub record Tallied (IsRight : List ℕ → Type 0) (Names : List ℕ → List ℕ → Type 0) (lines : List (List ℕ)) (t : Tally)
+    (printed : List ℕ) : Type 0 where
+  pub texts : List (List ℕ)
+  pub each : NamesEachWrong IsRight Names lines texts
+  pub compared : t.compared ≡ length lines
+  pub differ : t.differ ≡ length texts
+  pub named : printed ≡ flat_map (λ text. text ++ codes "\n") texts
+
+-- the first line that has not the form of its file, and the tally of those before it
+pub record EndsAtMalformed (IsCase IsRight : List ℕ → Type 0) (Names : List ℕ → List ℕ → Type 0) (lines : List (List ℕ))
+    (t : Tally) (printed : List ℕ) : Type 0 where
+  pub before : List (List ℕ)
+  pub line : List ℕ
+  pub after : List (List ℕ)
+  pub parts : lines ≡ before ++ (line ∷ after)
+  pub tallied : Tallied IsRight Names before t printed
+  pub malformed : IsCase line → ⊥
+
+-- what comparing the lines of a file tells
+abbrev pub Compares : (IsCase IsRight : List ℕ → Type 0) → (List ℕ → List ℕ → Type 0) → List (List ℕ) → Comparison → Type 0
+Compares IsCase IsRight Names lines c =
+    MatchOption c.malformed (Tallied IsRight Names lines c.tally (string_bytes c.differences))
+    (λ _. EndsAtMalformed IsCase IsRight Names lines c.tally (string_bytes c.differences))
+
+-- one more line in a comparison, and what was found of it
+abbrev pub Adds : Comparison → Option (List ℕ) → Comparison → Type 0
+Adds old None new =
+    (new.malformed ≡ old.malformed) × (new.tally.compared ≡ old.tally.compared + 1)
+    × (new.tally.differ ≡ old.tally.differ) × (string_bytes new.differences ≡ string_bytes old.differences)
+Adds old (Some text) new =
+    (new.malformed ≡ old.malformed) × (new.tally.compared ≡ old.tally.compared + 1)
+    × (new.tally.differ ≡ old.tally.differ + 1)
+    × (string_bytes new.differences ≡ string_bytes old.differences ++ (text ++ codes "\n"))
+
+-- a tally as it is printed
+abbrev pub tally_text : Tally → List ℕ
+tally_text t = decimal t.compared ++ (codes " compared, " ++ (decimal t.differ ++ codes " differ"))

@@ -1,14 +1,25 @@
 //! Compares this program's answers with a folder of reference vectors, which a separate program computed.
 #![tactic(auto)]
 
-mod packets;
+mod comparing;
+mod differences;
+mod files;
+mod limits;
+mod packs;
 mod reels;
 mod tallies;
+mod unpacks;
+mod words;
 
-use crate::packets::Cases;
-use crate::tallies::Tally;
+use crate::comparing::{Comparison, compare};
+use crate::files::CaseFile;
+use crate::limits::LimitFile;
+use crate::packs::PackFile;
+use crate::reels::ReelFile;
+use crate::unpacks::UnpackFile;
 use anyhow::{Context, bail, ensure};
 use program::exit_code;
+use std::collections::BTreeMap;
 use std::process::ExitCode;
 use std::{env, fs};
 
@@ -38,10 +49,10 @@ fn run(rt: &HostRuntime) -> anyhow::Result<()> {
         rt,
         folder: folder.as_str(),
     };
-    let reels = vectors.report("reel-check", vectors.compare_reels()?)?;
-    let packs = vectors.report("pack", vectors.compare_lines(Cases::Packs)?)?;
-    let limits = vectors.report("pack-limits", vectors.compare_lines(Cases::Limits)?)?;
-    let unpacks = vectors.report("unpack", vectors.compare_lines(Cases::Unpacks)?)?;
+    let reels = vectors.compare_reels()?;
+    let packs = vectors.compare_file("pack", &PackFile)?;
+    let limits = vectors.compare_file("pack-limits", &LimitFile)?;
+    let unpacks = vectors.compare_file("unpack", &UnpackFile)?;
     ensure!(reels && packs && limits && unpacks, "some answers differ");
     Ok(())
 }
@@ -54,18 +65,62 @@ struct Vectors<'a> {
 }
 
 impl Vectors<'_> {
-    /// Prints the tally of a file of cases, and answers whether none differs. That there were none is an error.
-    fn report(self, file: &str, tally: Tally) -> anyhow::Result<bool> {
-        let Tally { compared, differ } = tally;
-        println!(self.rt; "{file}: {compared} compared, {differ} differ")?;
-        ensure!(compared > 0, "there was nothing to compare");
-        Ok(differ == 0)
+    /// Compares the cases of reel-check.txt, and answers whether none differs.
+    fn compare_reels(self) -> anyhow::Result<bool> {
+        let cases = self.read_cases("reel-check")?;
+        let reels = self.read_reels(cases.as_str())?;
+        self.report("reel-check", &ReelFile { reels }, cases.as_str())
+    }
+
+    /// Compares the cases of a file, and answers whether none differs.
+    fn compare_file<F: CaseFile>(self, name: &str, file: &F) -> anyhow::Result<bool> {
+        let cases = self.read_cases(name)?;
+        self.report(name, file, cases.as_str())
+    }
+
+    /// Prints what differs in the cases of a file and how many differ, and answers whether none does. A line that does not
+    /// have the form of the file is an error, and so is that there are no cases.
+    fn report<F: CaseFile>(self, name: &str, file: &F, cases: &str) -> anyhow::Result<bool> {
+        let rt = self.rt;
+        let Comparison {
+            tally,
+            differences,
+            malformed,
+        } = compare(rt.alloc(), file, cases)?;
+        rt.print(differences)?;
+        if let Some(malformed) = malformed {
+            bail!("{name}.txt has {malformed}");
+        }
+        println!(rt; "{name}: {tally}")?;
+        ensure!(tally.compared > 0, "there was nothing to compare");
+        Ok(tally.differ == 0)
     }
 
     /// The text of a file of cases.
-    fn read_cases(self, file: &str) -> anyhow::Result<String> {
+    fn read_cases(self, name: &str) -> anyhow::Result<String> {
         let Vectors { rt, folder } = self;
-        let path = format!(in rt.alloc(); "{folder}/{file}")?;
+        let path = format!(in rt.alloc(); "{folder}/{name}.txt")?;
         fs::read_to_string(rt, path.as_str()).context(format_args!("cannot read {path}"))
     }
+
+    /// The reels that cases name, by their names.
+    fn read_reels(self, cases: &str) -> anyhow::Result<BTreeMap<String, Vec<u8>>> {
+        let Vectors { rt, folder } = self;
+        let heap = rt.alloc();
+        let mut reels = BTreeMap::new(heap);
+        for case in cases.lines() {
+            let Some((name, _)) = case.split_once(' ') else {
+                continue;
+            };
+            let path = format!(in heap; "{folder}/{name}.reel")?;
+            let bytes = fs::read(rt, path.as_str()).context(format_args!("cannot read {path}"))?;
+            reels
+                .insert(String::from_str(heap, name)?, bytes)
+                .map_err(std::alloc::AllocError::from)?;
+        }
+        Ok(reels)
+    }
 }
+
+#[cfg(test)]
+mod tests;
