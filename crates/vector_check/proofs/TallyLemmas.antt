@@ -1,14 +1,12 @@
 -- The tally of one line more.
-use Rattle.std.proofs.Common.{◌≡◌, ℕ, ◌+◌, ◌≤◌, List, [], ◌∷◌, ◌++◌, length, codes, Option, Some, None, Ok, sym, refl, ap, ◌∙◌, inl, inr, arith, length-append, ◌<◌, get_or, take, drop, map, append_assoc}
+use Rattle.std.proofs.Common.{◌≡◌, ℕ, ◌+◌, ◌≤◌, List, [], ◌∷◌, ◌++◌, length, codes, sym, refl, ap, ◌∙◌, inl, inr, arith, length-append, ◌<◌, get_or, take, drop, map, append_assoc}
 use Rattle.std.specs.List.{flat_map}
-use Rattle.std.specs.Option.{option_map}
 use Rattle.std.specs.String.{string_bytes}
 use Rattle.std.proofs.lemmas.List.{append-nil, map_more, map-append, take-append-drop}
 use Rattle.std.proofs.lemmas.List.Concat.{flat_map-append}
 use Rattle.vector_check.specs.declared.tallies.Tally.{Tally}
 use Rattle.vector_check.specs.declared.comparing.Comparison.{Comparison}
-use Rattle.vector_check.specs.Differences.{Judges}
-use Rattle.vector_check.specs.Tallies.{Adds, NamesEachWrong, Tallied}
+use Rattle.vector_check.specs.Tallies.{AddsLine, AddsRight, AddsWrong, NamesEachWrong, Tallied}
 
 module _ (IsRight : List ℕ → Type 0) (Names : List ℕ → List ℕ → Type 0) where
   names_right : (lines texts : List (List ℕ)) (line : List ℕ) → NamesEachWrong IsRight Names lines texts → IsRight line
@@ -28,39 +26,49 @@ module _ (IsRight : List ℕ → Type 0) (Names : List ℕ → List ℕ → Type
   pub tallied_none : (t : Tally) (printed : List ℕ) → t.compared ≡ 0 → t.differ ≡ 0 → printed ≡ [] → Tallied IsRight Names [] t printed
   tallied_none t printed c d e = record { texts = []; each = refl; compared = c; differ = d; named = e }
 
-  pub tallied_more : {X : Type 0} (bytes : X → List ℕ) (IsCase : Type 0) (lines : List (List ℕ)) (line : List ℕ) (found : Option X) (old new : Comparison)
-      → Tallied IsRight Names lines old.tally (string_bytes old.differences)
-      → Judges bytes IsCase (IsRight line) (Names line) (Ok found) → Adds old (option_map bytes found) new
+  right_more : (lines : List (List ℕ)) (line : List ℕ) (old new : Comparison)
+      → Tallied IsRight Names lines old.tally (string_bytes old.differences) → IsRight line → AddsRight old new
       → Tallied IsRight Names (lines ++ line ∷ []) new.tally (string_bytes new.differences)
-  tallied_more bytes IsCase lines line None old new h right (same, compared, differ, named) = record {
+  right_more lines line old new h right a = record {
     texts = h.texts;
     each = names_right lines h.texts line h.each right;
-    compared = compared ∙ ap (λ n. n + 1) h.compared ∙ sym (length-append lines (line ∷ []));
-    differ = differ ∙ h.differ;
-    named = named ∙ h.named;
+    compared = a.compared ∙ ap (λ n. n + 1) h.compared ∙ sym (length-append lines (line ∷ []));
+    differ = a.differ ∙ h.differ;
+    named = a.named ∙ h.named;
   }
-  tallied_more bytes IsCase lines line (Some s) old new h (wrong, names) (same, compared, differ, named) =
-      let text = bytes s in
+
+  wrong_more : (lines : List (List ℕ)) (line text : List ℕ) (old new : Comparison)
+      → Tallied IsRight Names lines old.tally (string_bytes old.differences) → (IsRight line → ⊥) → Names line text → AddsWrong old text new
+      → Tallied IsRight Names (lines ++ line ∷ []) new.tally (string_bytes new.differences)
+  wrong_more lines line text old new h wrong names a =
       let more : flat_map (λ u. u ++ codes "\n") (h.texts ++ text ∷ []) ≡ flat_map (λ u. u ++ codes "\n") h.texts ++ (text ++ codes "\n")
       = flat_map-append (λ u. u ++ codes "\n") h.texts (text ∷ []) ∙ ap (λ l. flat_map (λ u. u ++ codes "\n") h.texts ++ l) (append-nil (text ++ codes "\n")) in
       record {
         texts = h.texts ++ text ∷ [];
         each = names_wrong lines h.texts line text h.each wrong names;
-        compared = compared ∙ ap (λ n. n + 1) h.compared ∙ sym (length-append lines (line ∷ []));
-        differ = differ ∙ ap (λ n. n + 1) h.differ ∙ sym (length-append h.texts (text ∷ []));
-        named = named ∙ ap (λ l. l ++ (text ++ codes "\n")) h.named ∙ sym more;
+        compared = a.compared ∙ ap (λ n. n + 1) h.compared ∙ sym (length-append lines (line ∷ []));
+        differ = a.differ ∙ ap (λ n. n + 1) h.differ ∙ sym (length-append h.texts (text ∷ []));
+        named = a.named ∙ ap (λ l. l ++ (text ++ codes "\n")) h.named ∙ sym more;
       }
+
+  pub tallied_more : (lines : List (List ℕ)) (line : List ℕ) (old new : Comparison)
+      → Tallied IsRight Names lines old.tally (string_bytes old.differences) → AddsLine (IsRight line) (Names line) old new
+      → Tallied IsRight Names (lines ++ line ∷ []) new.tally (string_bytes new.differences)
+  tallied_more lines line old new h (inl (right, a)) = right_more lines line old new h right a
+  tallied_more lines line old new h (inr (text, wrong, names, a)) = wrong_more lines line text old new h wrong names a
 
 abbrev pub Within : Tally → Type 0
 Within t = t.differ ≤ t.compared
 
-pub within_more : (old new : Comparison) (found : Option (List ℕ)) → Within old.tally → Adds old found new → Within new.tally
-within_more old new None h (same, compared, differ, named) = omega arith
-within_more old new (Some text) h (same, compared, differ, named) = omega arith
+pub within_more : (IsRight : Type 0) (Names : List ℕ → Type 0) (old new : Comparison) → Within old.tally → AddsLine IsRight Names old new
+    → Within new.tally
+within_more IsRight Names old new h (inl (right, a)) = omega (arith, a.compared, a.differ)
+within_more IsRight Names old new h (inr (text, wrong, names, a)) = omega (arith, a.compared, a.differ)
 
-pub open_more : (old new : Comparison) (found : Option (List ℕ)) → Adds old found new → new.malformed ≡ old.malformed
-open_more old new None h = h.0
-open_more old new (Some text) h = h.0
+pub whole_more : (IsRight : Type 0) (Names : List ℕ → Type 0) (old new : Comparison) → AddsLine IsRight Names old new
+    → new.malformed ≡ old.malformed
+whole_more IsRight Names old new (inl (right, a)) = a.malformed
+whole_more IsRight Names old new (inr (text, wrong, names, a)) = a.malformed
 
 -- a line stands between those before it and those behind it
 pub parts_at : {X : Type 0} (f : X → List ℕ) (xs : List X) (i : ℕ) (d : X) → i < length xs

@@ -25,7 +25,8 @@ joined (Some first) (Some second) = Some (first ++ (codes "\n" ++ second))
 
 -- what comparing a case tells, seen by its bytes: that it is right; that it is not, and a text that names what differs;
 -- that the line has not the form of its file; or that memory ran out
-abbrev pub Judges : {X : Type 0} → (X → List ℕ) → Type 0 → Type 0 → (List ℕ → Type 0) → Result (Option X) CaseError → Type 0
+abbrev pub Judges :
+    {X : Type 0} → (X → List ℕ) → Type 0 → Type 0 → (List ℕ → Type 0) → Result (Option X) CaseError → Type 0
 Judges bytes IsCase IsRight Names (Ok None) = IsRight
 Judges bytes IsCase IsRight Names (Ok (Some s)) = (IsRight → ⊥) × Names (bytes s)
 Judges bytes IsCase IsRight Names (Err (Line reason)) = IsCase → ⊥

@@ -1,5 +1,6 @@
 -- How many cases of a file were compared, and how many of them are not as they should be.
-use Rattle.std.specs.Prelude.{◌≡◌, ℕ, ◌+◌, ◌⊎◌, List, [], ◌∷◌, ◌++◌, length, codes, Option, Some, None, MatchOption, string_bytes, decimal}
+use Rattle.std.specs.Prelude.{◌≡◌, ℕ, ◌+◌, ◌⊎◌, List, [], ◌∷◌, ◌++◌, length, codes, decimal, string_bytes}
+use Rattle.std.specs.Prelude.{MatchOption}
 use Rattle.std.specs.List.{flat_map}
 use Rattle.vector_check.specs.declared.tallies.Tally.{Tally}
 use Rattle.vector_check.specs.declared.comparing.Comparison.{Comparison}
@@ -33,20 +34,29 @@ pub record EndsAtMalformed (IsCase IsRight : List ℕ → Type 0) (Names : List 
   pub malformed : IsCase line → ⊥
 
 -- what comparing the lines of a file tells
-abbrev pub Compares : (IsCase IsRight : List ℕ → Type 0) → (List ℕ → List ℕ → Type 0) → List (List ℕ) → Comparison → Type 0
+abbrev pub Compares :
+    (IsCase IsRight : List ℕ → Type 0) → (List ℕ → List ℕ → Type 0) → List (List ℕ) → Comparison → Type 0
 Compares IsCase IsRight Names lines c =
     MatchOption c.malformed (Tallied IsRight Names lines c.tally (string_bytes c.differences))
     (λ _. EndsAtMalformed IsCase IsRight Names lines c.tally (string_bytes c.differences))
 
--- one more line in a comparison, and what was found of it
-abbrev pub Adds : Comparison → Option (List ℕ) → Comparison → Type 0
-Adds old None new =
-    (new.malformed ≡ old.malformed) × (new.tally.compared ≡ old.tally.compared + 1)
-    × (new.tally.differ ≡ old.tally.differ) × (string_bytes new.differences ≡ string_bytes old.differences)
-Adds old (Some text) new =
-    (new.malformed ≡ old.malformed) × (new.tally.compared ≡ old.tally.compared + 1)
-    × (new.tally.differ ≡ old.tally.differ + 1)
-    × (string_bytes new.differences ≡ string_bytes old.differences ++ (text ++ codes "\n"))
+-- one line more is compared: it is right, or it is not and a text names what differs in it
+pub record AddsRight (old new : Comparison) : Type 0 where
+  pub compared : new.tally.compared ≡ old.tally.compared + 1
+  pub differ : new.tally.differ ≡ old.tally.differ
+  pub named : string_bytes new.differences ≡ string_bytes old.differences
+  pub malformed : new.malformed ≡ old.malformed
+
+pub record AddsWrong (old : Comparison) (text : List ℕ) (new : Comparison) : Type 0 where
+  pub compared : new.tally.compared ≡ old.tally.compared + 1
+  pub differ : new.tally.differ ≡ old.tally.differ + 1
+  pub named : string_bytes new.differences ≡ string_bytes old.differences ++ (text ++ codes "\n")
+  pub malformed : new.malformed ≡ old.malformed
+
+abbrev pub AddsLine : Type 0 → (List ℕ → Type 0) → Comparison → Comparison → Type 0
+AddsLine IsRight Names old new =
+    (IsRight × AddsRight old new)
+    ⊎ ((text : List ℕ) × (IsRight → ⊥) × Names text × AddsWrong old text new)
 
 -- a tally as it is printed
 abbrev pub tally_text : Tally → List ℕ

@@ -1,8 +1,7 @@
 //! The cases of a file, compared one by one.
-ghost use Rattle.std.specs.Prelude.{◌≡◌, ℕ, ◌+◌, ◌<◌, ◌≤◌, ◌^◌, IfOk, OnOk, None, [], map, string_bytes};
-ghost use Rattle.std.specs.Option.{option_map};
+ghost use Rattle.std.specs.Prelude.{◌≡◌, ℕ, ◌+◌, ◌<◌, ◌≤◌, ◌^◌, IfOk, MatchOption, OnOk, None, [], map, string_bytes};
 ghost use Rattle.std.specs.Str.Lines.{lines};
-ghost use Rattle.vector_check.specs.Tallies.{Adds, Compares};
+ghost use Rattle.vector_check.specs.Tallies.{AddsLine, AddsRight, AddsWrong, Compares};
 
 use crate::files::{CaseError, CaseFile, Malformed};
 use crate::tallies::Tally;
@@ -15,11 +14,12 @@ pub(crate) struct Comparison {
     pub(crate) tally: Tally,
     /// What differs, a line for each answer.
     pub(crate) differences: String,
-    /// What the first line lacks that does not have the form of the file, if there is one; nothing behind it is compared.
+    /// What the first line lacks that does not have the form of the file, if there is one. Nothing behind it is compared.
     pub(crate) malformed: Option<Malformed>,
 }
 
-/// Compares the case of each line of a text with what it says, up to the first line that does not have the form of the file.
+/// Compares the case of each line of a text with what the line says, up to the first that does not have the form of the
+/// file.
 pub(crate) fn compare<F: CaseFile>(
     heap: Global,
     file: &F,
@@ -49,13 +49,9 @@ fn compare_lines<F: CaseFile>(
 {
     let mut comparison = Comparison::new(heap);
     for line in lines {
-        match file.compare(heap, line) {
-            Ok(found) => comparison.add(found)?,
-            Err(CaseError::Line(reason)) => {
-                comparison.malformed = Some(reason);
-                return Ok(comparison);
-            }
-            Err(CaseError::OutOfMemory) => return Err(AllocError),
+        if let Some(reason) = comparison.compare_line(heap, file, line)? {
+            comparison.malformed = Some(reason);
+            return Ok(comparison);
         }
     }
     Ok(comparison)
@@ -75,17 +71,46 @@ impl Comparison {
         }
     }
 
-    // One more line was compared, and this was found of it.
-    fn add(&mut self, found: Option<String>) -> Result<(), AllocError>
+    // Compares the case of one more line. What the line lacks, if it does not have the form of the file, is answered, and then
+    // all is as it was.
+    fn compare_line<F: CaseFile>(
+        &mut self,
+        heap: Global,
+        file: &F,
+        line: &str,
+    ) -> Result<Option<Malformed>, AllocError>
         requires room { self.old.tally.compared + 1 < 2 ^ 64 }
         requires within { self.old.tally.differ ≤ self.old.tally.compared }
-        ensures { OnOk result (Adds self.old (option_map string_bytes found) self.new) }
+        ensures { IfOk result (λ malformed. MatchOption malformed
+            (AddsLine (F.is_right file.now line.now) (F.names file.now line.now) self.old self.new)
+            (λ _. (self.new ≡ self.old) × (F.is_case file.now line.now → ⊥))) }
+    {
+        match file.compare(heap, line) {
+            Ok(None) => self.add_right(),
+            Ok(Some(text)) => self.add_wrong(text.as_str())?,
+            Err(CaseError::Line(reason)) => return Ok(Some(reason)),
+            Err(CaseError::OutOfMemory) => return Err(AllocError),
+        }
+        Ok(None)
+    }
+
+    // One more line was right.
+    fn add_right(&mut self)
+        requires { self.old.tally.compared + 1 < 2 ^ 64 }
+        ensures { AddsRight self.old self.new }
     {
         self.tally.compared += 1;
-        if let Some(text) = found {
-            self.tally.differ += 1;
-            writeln!(self.differences, "{text}")?;
-        }
+    }
+
+    // One more line was not right, and this text names what differs.
+    fn add_wrong(&mut self, text: &str) -> Result<(), AllocError>
+        requires room { self.old.tally.compared + 1 < 2 ^ 64 }
+        requires within { self.old.tally.differ ≤ self.old.tally.compared }
+        ensures { OnOk result (AddsWrong self.old text.now self.new) }
+    {
+        self.tally.compared += 1;
+        self.tally.differ += 1;
+        writeln!(self.differences, "{text}")?;
         Ok(())
     }
 }

@@ -5,7 +5,8 @@ ghost use Rattle.packet.specs.declared.codes.CodeNumbers.{CodeNumbers};
 ghost use Rattle.packet_lines.specs.Reading.{reading};
 ghost use Rattle.packet_lines.specs.Reading.Asked.{pack};
 ghost use Rattle.vector_check.specs.Differences.{Finds, Reads};
-ghost use Rattle.vector_check.specs.Limits.{AnswersInRoom, AnswersLimit, IsLimitCase, IsRightLimit, IsRoom, LimitLine, LimitParts, NamesLimit, limit_of, limit_text, pack_line};
+ghost use Rattle.vector_check.specs.Limits.{AnswersInRoom, AnswersLimit, IsLimitCase, IsRightLimit, IsRoom, LimitLine};
+ghost use Rattle.vector_check.specs.Limits.{LimitParts, NamesLimit, limit_of, limit_text, pack_line};
 
 use crate::differences::difference;
 use crate::files::{CaseError, CaseFile, Malformed};

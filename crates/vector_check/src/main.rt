@@ -78,8 +78,8 @@ impl Vectors<'_> {
         self.report(name, file, cases.as_str())
     }
 
-    /// Prints what differs in the cases of a file and how many differ, and answers whether none does. A line that does not
-    /// have the form of the file is an error, and so is that there are no cases.
+    /// Prints what differs in the cases of a file and how many differ, and answers whether none does. It is an error if a
+    /// line does not have the form of the file, or there are no cases.
     fn report<F: CaseFile>(self, name: &str, file: &F, cases: &str) -> anyhow::Result<bool> {
         let rt = self.rt;
         let Comparison {

@@ -53,7 +53,8 @@ impl UnpackCase<'_> {
     // What differs, where the bytes do not give the answer.
     fn difference(self, heap: Global) -> Result<Option<String>, AllocError>
         ensures { IfOk result (λ found. Finds (Answers (unpack_of self.entry.rate.now self.entry.bytes.now))
-            (unpack_of self.entry.rate.now self.entry.bytes.now) self.entry.answer.now (option_map string_bytes found)) }
+            (unpack_of self.entry.rate.now self.entry.bytes.now) self.entry.answer.now
+            (option_map string_bytes found)) }
     {
         let UnpackCase {
             rate,
