@@ -28,14 +28,16 @@ pub fn exit_code(rt: &impl Eprint, name: &str, outcome: anyhow::Result<()>) -> E
 
 /// The error of a standard input that cannot be read.
 pub fn unreadable(cause: io::Error) -> anyhow::Error
-    ensures { IsContextOn (IsMadeOf None) (Some (codes "standard input cannot be read")) result }
+    ensures { IsContextOn (IsMadeOf None)
+        (Some (codes "standard input cannot be read")) result }
 {
     anyhow::Error::from(cause).context("standard input cannot be read")
 }
 
 /// The error of a standard output that cannot be written.
 pub fn unwritable(cause: io::Error) -> anyhow::Error
-    ensures { IsContextOn (IsMadeOf None) (Some (codes "standard output cannot be written")) result }
+    ensures { IsContextOn (IsMadeOf None)
+        (Some (codes "standard output cannot be written")) result }
 {
     anyhow::Error::from(cause).context("standard output cannot be written")
 }

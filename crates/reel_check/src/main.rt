@@ -59,7 +59,8 @@ fn input_text<R: Read + Drop>(heap: Global, input: R) -> anyhow::Result<String>
 
 /// The first bytes of an input, at most one more than the longest reel has.
 fn read_reel<R: Read + Drop>(heap: Global, input: R) -> io::Result<Vec<u8>>
-    ensures { IfOk result (λ bytes. IfSome (R.remaining input) (λ all. bytes.items ≡ first_bytes 65537 all)) }
+    ensures { IfOk result (λ bytes. IfSome (R.remaining input)
+        (λ all. bytes.items ≡ first_bytes 65537 all)) }
 {
     read_up_to(heap, input, MAX_INPUT)
 }
