@@ -18,10 +18,12 @@ use crate::packs::PackFile;
 use crate::reels::ReelFile;
 use crate::unpacks::UnpackFile;
 use anyhow::{Context, bail, ensure};
-use program::exit_code;
+use program::{Asked, exit_code, unwritable};
 use std::collections::BTreeMap;
 use std::process::ExitCode;
 use std::{env, fs};
+
+const USAGE: &str = "it takes one folder of vectors (--help says more)";
 
 const HELP: &str = "\
 Usage: vector_check FOLDER
@@ -37,18 +39,18 @@ fn main(rt: HostRuntime) -> ExitCode {
 }
 
 fn run(rt: &HostRuntime) -> anyhow::Result<()> {
-    let mut words = env::args(rt)?.skip(1);
-    let (Some(folder), None) = (words.next(), words.next()) else {
-        bail!("it takes one folder of vectors (--help says more)");
-    };
-    if folder.as_str() == "--help" {
-        println!(rt; "{HELP}")?;
-        return Ok(());
+    let words: Vec<String> = env::args(rt)?.skip(1).collect(rt.alloc())?;
+    match Asked::from_words(&words, 1).context(USAGE)? {
+        Asked::Help => println!(rt; "{HELP}").map_err(unwritable),
+        Asked::Run => {
+            let folder = words[0].as_str();
+            compare_folder(Vectors { rt, folder })
+        }
     }
-    let vectors = Vectors {
-        rt,
-        folder: folder.as_str(),
-    };
+}
+
+/// Compares the cases of each file of a folder. It is an error if any differs.
+fn compare_folder(vectors: Vectors<'_>) -> anyhow::Result<()> {
     let reels = vectors.compare_reels()?;
     let packs = vectors.compare_file("pack", &PackFile)?;
     let limits = vectors.compare_file("pack-limits", &LimitFile)?;
@@ -87,7 +89,7 @@ impl Vectors<'_> {
             differences,
             malformed,
         } = compare(rt.alloc(), file, cases)?;
-        rt.print(differences)?;
+        rt.print(differences).map_err(unwritable)?;
         if let Some(malformed) = malformed {
             bail!("{name}.txt has {malformed}");
         }
