@@ -1,7 +1,7 @@
 -- Every run of takes has one answer, and takes one after another are take calls.
 use Rattle.std.proofs.Common.{◌≡◌, ℕ, zero, suc, ◌+◌, ◌<◌, List, [], ◌∷◌, ◌++◌, length, map, Some, refl, sym, ap, ap₂, subst, ◌∙◌, inl, inr, append_assoc, append-nil, arith, Ok, Err, Result, reverse}
 use Rattle.std.proofs.lemmas.Bool.{cases_lt, cases_order}
-use Rattle.std.proofs.lemmas.List.{length-append, length-map, reverse-append}
+use Rattle.std.proofs.lemmas.List.{length-append, reverse-append}
 use Rattle.service.specs.declared.refusals.Refusal.{Refusal}
 use Rattle.service.specs.declared.refusals.Refusal.TheVariants.{UnlawfulReel}
 use Rattle.service.specs.declared.readings.RunEnd.{RunEnd}
@@ -15,38 +15,11 @@ use Rattle.rules.specs.Reels.{arrivals_of}
 use Rattle.rules.specs.Rows.{EndsRun, GoesOn, PageRows, Row, RunAnswer, RunState, RunsTakes, StartsPage, TakesAll, row_of, rows_of}
 use Rattle.law.specs.Runs.{CallMade, RestartReceiver, Run, Step, Take, now}
 use Rattle.law.specs.Answers.{ChainOfTakesIsARun, ChainsOfTakesJoin, EachTakeIsACall, OneAnswerToEachRunOfTakes, OnePage, TakesAreCalls}
+use Rattle.rules.proofs.Takes.{no_parts, part_at, queue_count, row_count, takes_join as join, takes_length}
 use Rattle.law.proofs.OneTake.{take_once, take_some, takes_on, to_come_after}
 
 abbrev state : Receiver → List Arrival → List Row → RunState
 state e supply rows = record { receiver = e; supply = supply; rows = rows }
-
--- ---- before each take
-
--- a list of more than n, parted behind its first n
-record Parted {A : Type 0} (zs : List A) (n : ℕ) : Type 0 where
-  front : List A
-  next : A
-  back : List A
-  whole : zs ≡ front ++ (next ∷ back)
-  many : length front ≡ n
-
-part_at : {A : Type 0} (zs : List A) (n : ℕ) → n < length zs → Parted zs n
-part_at [] n h = absurd (omega arith)
-part_at (z ∷ zs) zero h = record { front = []; next = z; back = zs; whole = refl; many = refl }
-part_at (z ∷ zs) (suc n) h =
-    let r = part_at zs n (omega arith) in
-    record { front = z ∷ r.front; next = r.next; back = r.back; whole = ap (λ l. z ∷ l) r.whole; many = ap suc r.many }
-
-no_parts : {A : Type 0} (xs : List A) (y : A) (ys : List A) → [] ≡ xs ++ (y ∷ ys) → ⊥
-no_parts [] y ys e = absurd (omega (arith, ap length e))
-no_parts (x ∷ xs) y ys e = absurd (omega (arith, ap length e))
-
--- there are as many rows as takes
-row_count : (xs : List Taken) → length (rows_of xs) ≡ length xs
-row_count xs = length-map xs row_of
-
-queue_count : (queue : List Row) (xs : List Taken) → length (queue ++ rows_of xs) ≡ length queue + length xs
-queue_count queue xs = length-append queue (rows_of xs) ∙ ap (λ n. length queue + n) (row_count xs)
 
 -- ---- a run has an answer
 
@@ -149,11 +122,6 @@ takes_once e supply (x ∷ xs) (y ∷ ys) d d' rest rest' long (c, list, one, mo
     let same = takes_once c' list' xs ys d d' rest rest' (omega arith)
     (subst (λ l. TakesAll c' l xs d rest) first.supply (subst (λ r. TakesAll r list xs d rest) first.receiver more)) more' in
     record { taken = ap₂ (λ z zs. z ∷ zs) first.answer same.taken; receiver = same.receiver; supply = same.supply }
-
-takes_length : (e : Receiver) (supply : List Arrival) (xs : List Taken) (d : Receiver) (rest : List Arrival) → TakesAll e supply xs d rest → length supply ≡ length xs + length rest
-takes_length e supply [] d rest (kept, left) = let l = ap length left in omega arith
-takes_length e supply (x ∷ xs) d rest (c, list, one, more) =
-    let l = ap length one.first in let m = takes_length c list xs d rest more in omega arith
 
 -- a run that has ended does not go on
 ended_not_more : (end : RunEnd) (wanted n places queued left : ℕ) (rest : List Arrival) → EndsRun end wanted n places queued rest
@@ -305,12 +273,6 @@ takes_are_calls s xs e rest takes = are_calls xs s e rest takes
 pub each_take_is_a_call : EachTakeIsACall
 each_take_is_a_call s x e rest takes = takes_on s x e rest takes
 
--- ---- chains of takes join
-
-pub takes_join : ChainsOfTakesJoin
-takes_join e d c supply list rest [] ys (kept, left) more = subst (λ l. TakesAll e l ys c rest) left (subst (λ r. TakesAll r list ys c rest) kept more)
-takes_join e d c supply list rest (x ∷ xs) ys (b, between, one, others) more = (b, between, one, takes_join b d c between list rest xs ys others more)
-
 -- ---- a page
 
 page_some : (e : Receiver) (supply : List Arrival) → (xs : List Taken) × (d : Receiver) × TakesAll e supply xs d []
@@ -375,3 +337,6 @@ one_page = record {
   text = λ bytes. text_some (arrivals_of bytes);
   only_text = λ bytes. text_once (arrivals_of bytes);
 }
+
+pub takes_join : ChainsOfTakesJoin
+takes_join = join

@@ -1,12 +1,14 @@
 -- From every link each list of commands has one run.
-use Rattle.std.proofs.Common.{◌≡◌, List, [], ◌∷◌, ◌++◌, length, map, reverse, Ok, Err, Some, Option, refl, sym, ap, ap₂, ◌∙◌, subst, arith}
+use Rattle.std.proofs.Common.{◌≡◌, ℕ, List, [], ◌∷◌, ◌++◌, length, map, reverse, Ok, Err, Some, Option, refl, sym, ap, ap₂, ◌∙◌, subst, arith}
 use Rattle.std.proofs.lemmas.List.{map-append, reverse-append}
+use Rattle.rules.specs.Arrivals.{Arrival}
+use Rattle.rules.specs.Ends.{Receiver, Sender}
 use Rattle.rules.specs.Links.{Link}
 use Rattle.law.specs.Runs.{Call, CallMade, Run, Send, Step, now}
 use Rattle.law.specs.Answers.{Command, command_of}
 use Rattle.law.proofs.OneAnswer.{one_answer}
 use Rattle.law.proofs.OneRun.{run_before}
-use Rattle.law.specs.Sessions.{AreAllComplete, Gives, IsSession, OneOutcomeOfASession, OneSessionOfCommands, Outcome, SendAnswersCarry, Session, SessionsGrow, outcome_of, sent}
+use Rattle.law.specs.Sessions.{AreAllComplete, Gives, IsSession, OneOutcomeOfASession, OneSessionOfCommands, Outcome, EverySendCarries, Reply, Session, SessionsGrow, arrival_on_line, outcome_of, reply_of}
 use Rattle.law.proofs.Every.{carried, carried_over, every_run_throughout}
 
 abbrev command_made : CallMade → Command
@@ -105,6 +107,24 @@ session_more s t u commands outcomes command outcome a g =
       law = λ new. every_run_throughout s (m ∷ a.history) new run;
     }
 
+-- what a call gave, part by part
+pub gives : (s t : Link) (command : Command) (call : Call) (o : Outcome) → command_of call ≡ command → reply_of call ≡ o.reply → arrival_on_line call ≡ o.put
+    → t.sender ≡ o.sender → t.receiver ≡ o.receiver → length t.line.waiting ≡ o.waiting → Step s call t → Gives s command o t
+gives s t command call o given reply put sender receiver waiting step = record {
+  call = call;
+  given = given;
+  outcome_is =
+      ap (λ x. outcome x (arrival_on_line call) t.sender t.receiver (length t.line.waiting)) reply
+      ∙ ap (λ x. outcome o.reply x t.sender t.receiver (length t.line.waiting)) put
+      ∙ ap (λ x. outcome o.reply o.put x t.receiver (length t.line.waiting)) sender
+      ∙ ap (λ x. outcome o.reply o.put o.sender x (length t.line.waiting)) receiver
+      ∙ ap (λ x. outcome o.reply o.put o.sender o.receiver x) waiting;
+  step = step;
+}
+  where
+    outcome : Reply → Option Arrival → Sender → Receiver → ℕ → Outcome
+    outcome reply put sender receiver waiting = record { reply = reply; put = put; sender = sender; receiver = receiver; waiting = waiting }
+
 pub sessions_grow : SessionsGrow
 sessions_grow = record {
   none = λ s. record {
@@ -117,16 +137,6 @@ sessions_grow = record {
   more = session_more;
 }
 
-pub send_answers_carry : SendAnswersCarry
-send_answers_carry t u n p (Ok draws) (f, is, h) kept = record {
-  call = Send n p (Ok f);
-  given = refl;
-  reply_is = ap (λ k. sent (Ok k)) is;
-  carried = carried t u (Send n p (Ok f)) (h, kept);
-}
-send_answers_carry t u n p (Err refusal) h kept = record {
-  call = Send n p (Err refusal);
-  given = refl;
-  reply_is = refl;
-  carried = carried t u (Send n p (Err refusal)) (h, kept);
-}
+pub every_send_carries : EverySendCarries
+every_send_carries t u n p (Ok draws) (f, is, h) kept = (f, is, carried t u (Send n p (Ok f)) (h, kept))
+every_send_carries t u n p (Err refusal) h kept = carried t u (Send n p (Err refusal)) (h, kept)

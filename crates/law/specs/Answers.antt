@@ -149,8 +149,8 @@ pub record OnePage : Type 0 where
 
 -- ---- what was sent is read
 
--- what a send put on the line is read, with letter C and as it was sent: the rate, the codes, and the pairs and figures of
--- the rate's subframes
+-- what a send put on the line is read, with letter C and as it was sent: the rate, the codes, and the pairs and figures
+-- of the rate's subframes
 pub record ReadAsSent (q : Rate) (p : Parameters) (f : Sent) : Type 0 where
   pub reading : Reading
   pub read : Reads (arrival_sent f).category (arrival_sent f).bytes C (Some reading)

@@ -4,10 +4,10 @@ use Rattle.service.specs.declared.refusals.Refusal.{Refusal}
 use Rattle.rules.specs.Ends.{Receiver, Sender, Taken}
 use Rattle.rules.specs.Arrivals.{Arrival, blank_arrival}
 use Rattle.rules.specs.Links.{Link, SendAnswers, arrival_put}
-use Rattle.rules.specs.Sending.{Parameters, arrival_sent, send_answer}
+use Rattle.rules.specs.Sending.{Parameters, Sent, arrival_sent, send_answer}
 use Rattle.law.specs.Runs.{Call, CallMade, Send, Blank, Disturb, Take, RestartSender, RestartReceiver, New, Run, Step}
 use Rattle.law.specs.Law.{Carried, CarriedOver, LawThroughout}
-use Rattle.law.specs.Answers.{Command, IsComplete, command_of, send}
+use Rattle.law.specs.Answers.{Command, IsComplete, command_of}
 
 -- ---- runs of given commands
 
@@ -86,14 +86,12 @@ pub record Gives (s : Link) (command : Command) (outcome : Outcome) (t : Link) :
   pub outcome_is : outcome_of (record { call = call; link = t }) ≡ outcome
   pub step : Step s call t
 
--- A command on the link t was answered so and led to the link u, by the rule of its call; so any run from a new link
--- that led to t goes on to u, and the law holds after each call of it. This is for the call of a link that knows its
--- reply, and not all that its relation has, as a send.
-pub record ReplyCarried (t : Link) (command : Command) (reply : Reply) (u : Link) : Type 0 where
-  pub call : Call
-  pub given : command_of call ≡ command
-  pub reply_is : reply_of call ≡ reply
-  pub carried : Carried t call u
+-- A send on the link t was answered so and led to the link u, by its rule: so any run from a new link that led to t
+-- goes on to u, and the law holds after each call of it. Its caller is told the draws alone; what was sent with so many
+-- draws shows in the sender and on the line.
+abbrev pub SendCarried : Link → ℕ → Parameters → Result ℕ Refusal → Link → Type 0
+SendCarried t n p (Ok draws) u = (f : Sent) × (f.draws ≡ draws) × Carried t (Send n p (Ok f)) u
+SendCarried t n p (Err refusal) u = Carried t (Send n p (Err refusal)) u
 
 -- The commands, performed on s one after another, gave these outcomes, one each, and led to t: they are those of a
 -- history that is a run of exactly these commands. Any run that led to s goes on by it, and if s was new the law holds
@@ -111,12 +109,12 @@ OneOutcomeOfASession =
     (s t t' : Link) (commands : List Command) (outcomes outcomes' : List (Option Outcome))
     → Session s commands outcomes t → Session s commands outcomes' t' → (outcomes ≡ outcomes') × (t ≡ t')
 
--- by the answer, of a send: any run goes on
-abbrev pub SendAnswersCarry : Type 0
-SendAnswersCarry =
+-- what a send answers its caller is enough for that, if nothing else of the link is altered
+abbrev pub EverySendCarries : Type 0
+EverySendCarries =
     (t u : Link) (n : ℕ) (p : Parameters) (answer : Result ℕ Refusal)
     → SendAnswers t.sender t.line n p answer u.sender u.line → u ≡ record t { sender = u.sender; line = u.line }
-    → ReplyCarried t (send n p) (sent answer) u
+    → SendCarried t n p answer u
 
 -- no command is a session, and a session and one command more are a session
 pub record SessionsGrow : Type 0 where

@@ -9,7 +9,7 @@ ghost use Rattle.law.specs.Keeping.{EveryRunKeeps, MadeLinksAreNew, OwnLineDeliv
 ghost use Rattle.law.specs.Law.{EveryRun, EveryRunCarries, EveryRunThroughout, EveryStepCarries, RunsJoin};
 ghost use Rattle.law.specs.Listing.{WorkedListing};
 ghost use Rattle.law.specs.Marks.{WorkedExamples};
-ghost use Rattle.law.specs.Sessions.{OneOutcomeOfASession, OneSessionOfCommands, SendAnswersCarry, SessionsGrow};
+ghost use Rattle.law.specs.Sessions.{OneOutcomeOfASession, OneSessionOfCommands, EverySendCarries, SessionsGrow};
 
 /// Carries a theorem: every run of calls from a new link keeps the law: of the guarded bits, of the rounding, and of the
 /// agreement of the two ends.
@@ -115,9 +115,9 @@ pub fn sessions_grow()
 
 /// Carries a theorem: what a send answers its caller, and that nothing else of the link is altered, is enough for any run to go on by
 /// it, and the law with it.
-#[tactic(auto, using(crate::proofs::Sessions::send_answers_carry))]
-pub fn send_answers_carry()
-    ensures { SendAnswersCarry }
+#[tactic(auto, using(crate::proofs::Sessions::every_send_carries))]
+pub fn every_send_carries()
+    ensures { EverySendCarries }
 {}
 
 /// Carries a theorem: a take of the receiver from what is to come to its link is a take call on the link.
