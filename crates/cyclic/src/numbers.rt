@@ -7,8 +7,9 @@ use service::Refusal;
 /// A number of at most `N` bits.
 #[derive(Clone, Copy, PartialEq, Eq, Debug)]
 pub struct Bits<const N: u32> {
-    pub(crate) bits: u32,
-    ghost within: { bits < 2 ^ N },
+    /// The bits as a number.
+    pub bits: u32,
+    pub ghost within: { bits < 2 ^ N },
 }
 
 impl<const N: u32> Bits<N> {

@@ -12,8 +12,9 @@ const CODE_LENGTH: u8 = 28;
 /// A place of the 28 bits of the cyclic code, by its power of x: 0 to 27.
 #[derive(Clone, Copy, PartialEq, Eq, Debug)]
 pub struct Place {
-    power: u8,
-    ghost within: { power < 28 },
+    /// The power of x.
+    pub power: u8,
+    pub ghost within: { power < 28 },
 }
 
 impl Place {

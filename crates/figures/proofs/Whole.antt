@@ -18,8 +18,8 @@ use Rattle.packet.specs.Codes.{Within}
 use Rattle.packet.specs.OneAnswer.{SameUnpacked}
 use Rattle.figures.specs.declared.codebook.CodebookParameter.{CodebookParameter}
 use Rattle.figures.specs.FrameLaws.{CodebookCodesOfFrameFit, PitchCodesOfFrameFit}
-use Rattle.figures.specs.Frame.{AnswersFrame, EncodesFrame, OneFrameAnswer, PitchesAllowed, RefusesFrame}
-use Rattle.figures.specs.Pitch.{RefusesPitches, pair_at, pitch_allowed}
+use Rattle.figures.specs.Frame.{AnswersFrame, EncodesFrame, OneFrameAnswer, RefusesFrame}
+use Rattle.figures.specs.Pitch.{PitchesAllowed, RefusesPitches, pair_at, pitch_allowed}
 use Rattle.figures.proofs.Frames.{not_refused, one_codebook_answer, one_pitch_answer}
 
 -- an LSP code that is at most the top code has the width of LSP codes

@@ -14,7 +14,7 @@ use Rattle.figures.specs.declared.codebook.Sign.TheVariants.{Plus, Minus}
 use Rattle.figures.specs.declared.codebook.CodebookFigure.{CodebookFigure}
 use Rattle.figures.specs.declared.codebook.CodebookParameter.{CodebookParameter}
 use Rattle.packet_layout.specs.declared.subframes.CodebookCodes.{CodebookCodes}
-use Rattle.service.specs.FirstToFail.{RefusedAtFirst}
+use Rattle.service.specs.FirstToFail.{AllPass, RefusedAtFirst}
 
 -- the increments, in decibels, that the numbers 0 to 3 stand for; negsuc 3 is -4, and negsuc 1 is -2
 abbrev pub increments : Rate → List ℤ
@@ -120,14 +120,18 @@ pub record DecodesCodebooks (rate : Rate) (codes : CodebookCodes)
       (i : ℕ) → i < (rate_is rate).codebook_subframes → slice_index_or figures i None ≡ Some (codebook_at rate codes i)
   pub past : (i : ℕ) → (rate_is rate).codebook_subframes ≤ i → i < 8 → slice_index_or figures i None ≡ None
 
+-- the parameter of each codebook subframe of the rate is one that codes can stand for
+abbrev pub CodebooksAllowed : Rate → List CodebookParameter → Type 0
+CodebooksAllowed rate parameters =
+    AllPass (rate_is rate).codebook_subframes (λ i. codebook_allowed rate (parameter_at parameters i))
+
 -- These are the codes of a frame's eight parameters: each subframe of the rate is encoded, and past these all codes are
 -- 0.
 pub record EncodesCodebooks (rate : Rate) (parameters : List CodebookParameter) (codes : CodebookCodes) : Type 0 where
   pub parameters_length : length parameters ≡ 8
   pub cbindex_length : length codes.cbindex ≡ 8
   pub cbgain_length : length codes.cbgain ≡ 8
-  pub allowed :
-      (i : ℕ) → i < (rate_is rate).codebook_subframes → codebook_allowed rate (parameter_at parameters i) ≡ true
+  pub allowed : CodebooksAllowed rate parameters
   pub encoded :
       (i : ℕ) → i < (rate_is rate).codebook_subframes
       → codebook_codes_at codes i ≡ codebook_codes rate (parameter_at parameters i)

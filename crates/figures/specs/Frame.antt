@@ -2,15 +2,13 @@
 use Rattle.std.specs.Prelude.{◌≡◌, ℕ, ◌⊎◌, List, Result, MatchResult}
 use Rattle.service.specs.declared.rates.Rate.{Rate}
 use Rattle.service.specs.declared.refusals.Refusal.{Refusal}
-use Rattle.service.specs.FirstToFail.{AllPass}
-use Rattle.service.specs.Rates.{rate_is}
 use Rattle.service.specs.Refusals.{Answer, refusal_is}
 use Rattle.packet.specs.declared.codes.CodeNumbers.{CodeNumbers}
 use Rattle.packet.specs.declared.codes.Codes.{Codes}
 use Rattle.packet.specs.OneAnswer.{SameUnpacked}
 use Rattle.figures.specs.declared.codebook.CodebookParameter.{CodebookParameter}
-use Rattle.figures.specs.Codebook.{EncodesCodebooks, RefusesCodebooks, codebook_allowed, parameter_at}
-use Rattle.figures.specs.Pitch.{EncodesPitches, RefusesPitches, pair_at, pitch_allowed}
+use Rattle.figures.specs.Codebook.{EncodesCodebooks, RefusesCodebooks}
+use Rattle.figures.specs.Pitch.{EncodesPitches, PitchesAllowed, RefusesPitches}
 
 -- These are the codes of a frame: its LSP codes as they are, those of its pairs and parameters, and CBSEED 0.
 pub record EncodesFrame (rate : Rate) (lsp_codes : List ℕ) (pairs : List (ℕ × ℕ))
@@ -20,16 +18,7 @@ pub record EncodesFrame (rate : Rate) (lsp_codes : List ℕ) (pairs : List (ℕ 
   pub codebook : EncodesCodebooks rate parameters c.codebook
   pub cbseed : c.cbseed ≡ 0
 
--- the pair of each pitch subframe of the rate is one that codes can stand for
-abbrev pub PitchesAllowed : Rate → List (ℕ × ℕ) → Type 0
-PitchesAllowed rate pairs = AllPass (rate_is rate).pitch_subframes (λ i. pitch_allowed (pair_at pairs i))
-
--- the parameter of each codebook subframe of the rate is one that codes can stand for
-abbrev pub CodebooksAllowed : Rate → List CodebookParameter → Type 0
-CodebooksAllowed rate parameters =
-    AllPass (rate_is rate).codebook_subframes (λ i. codebook_allowed rate (parameter_at parameters i))
-
--- refusal 11 of the first pitch subframe that fails, and if none does, 12 of the first codebook subframe
+-- refusal 11 of the first pitch subframe that fails, and if none does, 12 of the first codebook subframe that fails
 abbrev pub RefusesFrame : Rate → List (ℕ × ℕ) → List CodebookParameter → Answer → Type 0
 RefusesFrame rate pairs parameters answer =
     RefusesPitches rate pairs answer ⊎ (PitchesAllowed rate pairs × RefusesCodebooks rate parameters answer)

@@ -1,12 +1,12 @@
 -- The pitch lag and the pitch gain of a subframe (IS-96, A.1.4.5). A pair is the lag in samples, and the gain in
 -- quarters. What is unfoldable is opaque: a proof sees behind its name only if it says so.
-use Rattle.std.specs.Prelude.{◌≡◌, ℕ, ◌+◌, ◌-◌, ◌<◌, ◌≤◌, Bool, true, if◌then◌else◌, ◌&&◌, List, length, ◌==◌, nat_le}
+use Rattle.std.specs.Prelude.{◌≡◌, ℕ, ◌+◌, ◌-◌, ◌<◌, ◌≤◌, Bool, if◌then◌else◌, ◌&&◌, List, length, ◌==◌, nat_le}
 use Rattle.std.specs.Prelude.{slice_index, slice_index_or}
 use Rattle.service.specs.declared.rates.Rate.{Rate}
 use Rattle.service.specs.Rates.{rate_is}
 use Rattle.service.specs.Refusals.{Answer}
 use Rattle.packet_layout.specs.declared.subframes.PitchCodes.{PitchCodes}
-use Rattle.service.specs.FirstToFail.{RefusedAtFirst}
+use Rattle.service.specs.FirstToFail.{AllPass, RefusedAtFirst}
 
 -- no pitch: lag 16 and gain 0
 abbrev pub no_pitch : ℕ × ℕ
@@ -45,12 +45,16 @@ pub record DecodesPitches (rate : Rate) (codes : PitchCodes) (pairs : List (ℕ 
   pub decoded : (i : ℕ) → i < (rate_is rate).pitch_subframes → pair_at pairs i ≡ pitch_at codes i
   pub past : (i : ℕ) → (rate_is rate).pitch_subframes ≤ i → i < 4 → pair_at pairs i ≡ no_pitch
 
+-- the pair of each pitch subframe of the rate is one that codes can stand for
+abbrev pub PitchesAllowed : Rate → List (ℕ × ℕ) → Type 0
+PitchesAllowed rate pairs = AllPass (rate_is rate).pitch_subframes (λ i. pitch_allowed (pair_at pairs i))
+
 -- These are the codes of a frame's four pairs: each subframe of the rate is encoded, and past these all codes are 0.
 pub record EncodesPitches (rate : Rate) (pairs : List (ℕ × ℕ)) (codes : PitchCodes) : Type 0 where
   pub pairs_length : length pairs ≡ 4
   pub plag_length : length codes.plag ≡ 4
   pub pgain_length : length codes.pgain ≡ 4
-  pub allowed : (i : ℕ) → i < (rate_is rate).pitch_subframes → pitch_allowed (pair_at pairs i) ≡ true
+  pub allowed : PitchesAllowed rate pairs
   pub encoded : (i : ℕ) → i < (rate_is rate).pitch_subframes → pitch_codes_at codes i ≡ pitch_codes (pair_at pairs i)
   pub past : (i : ℕ) → (rate_is rate).pitch_subframes ≤ i → i < 4 → pitch_codes_at codes i ≡ (0, 0)
 

@@ -3,7 +3,7 @@ ghost use Rattle.std.specs.Prelude.{◌≡◌, ◌<◌, ◌≤◌, true, false, 
 ghost use Rattle.service.specs.Rates.{rate_is};
 ghost use Rattle.service.specs.Refusals.{refusal_is, refused_at};
 ghost use Rattle.figures.specs.Pitch.{DecodesPitches, EncodesPitches, RefusesPitches};
-ghost use Rattle.figures.specs.Pitch.{pitch_allowed, pitch_at, pitch_codes, pitch_of};
+ghost use Rattle.figures.specs.Pitch.{no_pitch, pitch_allowed, pitch_at, pitch_codes, pitch_of};
 
 use packet_layout::PitchCodes;
 use service::{Rate, Refusal};
@@ -83,7 +83,7 @@ pub fn encode_pitches(rate: Rate, pairs: [(u32, u32); 4]) -> Result<PitchCodes, 
 fn pair_at(rate: Rate, codes: PitchCodes, index: usize) -> (u32, u32)
     requires { index < 4 }
     ensures decoded { index < (rate_is rate).pitch_subframes → result ≡ pitch_at codes index }
-    ensures past { (rate_is rate).pitch_subframes ≤ index → result ≡ (16, 0) }
+    ensures past { (rate_is rate).pitch_subframes ≤ index → result ≡ no_pitch }
 {
     if index < rate.pitch_subframes() {
         decode_pitch(codes.plag[index], codes.pgain[index])

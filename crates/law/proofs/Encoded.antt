@@ -8,11 +8,10 @@ use Rattle.packet.specs.declared.codes.CodeNumbers.{CodeNumbers}
 use Rattle.packet.specs.Calls.{packet}
 use Rattle.packet_layout.specs.declared.subframes.CodebookCodes.{CodebookCodes}
 use Rattle.packet_layout.specs.declared.subframes.PitchCodes.{PitchCodes}
-use Rattle.figures.specs.Pitch.{EncodesPitches, pair_at, pitch_codes as pitch_code}
-use Rattle.figures.specs.Codebook.{EncodesCodebooks, codebook_codes as codebook_code, parameter_at}
+use Rattle.figures.specs.Pitch.{EncodesPitches, PitchesAllowed, pair_at, pitch_codes as pitch_code}
+use Rattle.figures.specs.Codebook.{CodebooksAllowed, EncodesCodebooks, codebook_codes as codebook_code, parameter_at}
 use Rattle.figures.proofs.Frames.{one_codebook_answer, one_pitch_answer}
 use Rattle.rules.specs.Sending.{AreComplete, DrawsCbseed, Encodes, FirstNotAllOnes, AllDrawsAllOnes, AllOnesAtDraw, Parameters, cbseed_of, drawn, max_draws}
-use Rattle.figures.specs.Frame.{CodebooksAllowed, PitchesAllowed}
 use Rattle.law.proofs.Filled.{filled, filled_front, filled_length, filled_past}
 use Rattle.law.proofs.Searches.{all_or_first, first_once}
 use Rattle.law.proofs.OneReading.{codebook_subframes_le, known_ones, pitch_subframes_le}

@@ -10,10 +10,9 @@ use Rattle.service.proofs.Numbers.{distinct_numbers}
 use Rattle.packet.specs.declared.codes.CodeNumbers.{CodeNumbers}
 use Rattle.packet.specs.Calls.{packet}
 use Rattle.service.specs.FirstToFail.{FirstToFail}
-use Rattle.figures.specs.Codebook.{codebook_allowed, parameter_at}
-use Rattle.figures.specs.Pitch.{pair_at, pitch_allowed}
+use Rattle.figures.specs.Codebook.{CodebooksAllowed, codebook_allowed, parameter_at}
+use Rattle.figures.specs.Pitch.{PitchesAllowed, pair_at, pitch_allowed}
 use Rattle.rules.specs.Sending.{send_answer, AreComplete, CodesFrame, AllDrawsAllOnes, Parameters, Sent, arrival_sent, sender_after}
-use Rattle.figures.specs.Frame.{CodebooksAllowed, PitchesAllowed}
 use Rattle.law.proofs.Sent.{sent_bytes}
 use Rattle.rules.specs.Ends.{Sender}
 use Rattle.service.specs.Queues.{HasRoom, IsFull}

@@ -46,9 +46,9 @@ pub record MemoriesApart (h : List CallMade) (n sender_era receiver_era : ℕ) :
       < unsigned_abs (slice_index_or pair.sent.memories lsp (pos 0) -ℤ slice_index_or pair.taken.memories lsp (pos 0))
 
 -- A run of a new link that takes from its own line, on which nothing waits. The receiver is restarted once before it
--- takes arrival 2, and the memories are apart there. Frames 2 to 258 are 256 packets in a row, and frame 3, a blank. Of
--- these packets frame 2 arrives as it was sent; frame 4 with one of the 28 bits changed, and is corrected; frame 5 with
--- PCB[0] changed, and is read. Frame 259 arrives with two wrong bits, and is erased.
+-- takes arrival 2, and the memories are apart right after frame 2. Frames 2 to 258 are 256 packets in a row, and frame
+-- 3, a blank. Of these packets frame 2 arrives with no guarded bit changed; frame 4 with one of the 28 bits changed, and
+-- is corrected; frame 5 with PCB[0] changed, and is read. Frame 259 arrives with two wrong guarded bits, and is erased.
 pub record ExampleRun : Type 0 where
   pub start : Link
   pub history : List CallMade

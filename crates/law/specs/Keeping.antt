@@ -8,7 +8,7 @@ use Rattle.rules.specs.Links.{Line, Link, Source, new_link, this_line, to_come, 
 use Rattle.law.specs.Runs.{Call, CallMade, Send, Blank, Disturb, Take, RestartSender, RestartReceiver, New, Run}
 use Rattle.law.specs.Runs.{arrivals_taken, frames_sent, now}
 
--- a line has at most 256 places, and no more arrivals wait on it than it has, as is so of every queue
+-- a line has at most 256 places, and no more arrivals wait on it than it has
 pub record WithinPlaces (line : Line) : Type 0 where
   pub places : line.places ≤ max_places
   pub fits : length line.waiting ≤ line.places

@@ -94,8 +94,8 @@ SendCarried t n p (Ok draws) u = (f : Sent) × (f.draws ≡ draws) × Carried t 
 SendCarried t n p (Err refusal) u = Carried t (Send n p (Err refusal)) u
 
 -- The commands, performed on s one after another, gave these outcomes, one each, and led to t: they are those of a
--- history that is a run of exactly these commands. Any run that led to s goes on by it, and if s was new the law holds
--- after each of its calls. An outcome is shown as Some, as in places that were empty before.
+-- history that is a run of exactly these commands. Any run from a new link that led to s goes on by it, and if s was
+-- new the law holds after each of its calls. An outcome is shown as Some, as in places that were empty before.
 pub record Session (s : Link) (commands : List Command) (outcomes : List (Option Outcome)) (t : Link) : Type 0 where
   pub history : List CallMade
   pub session : IsSession s commands history
@@ -109,7 +109,7 @@ OneOutcomeOfASession =
     (s t t' : Link) (commands : List Command) (outcomes outcomes' : List (Option Outcome))
     → Session s commands outcomes t → Session s commands outcomes' t' → (outcomes ≡ outcomes') × (t ≡ t')
 
--- what a send answers its caller is enough for that, if nothing else of the link is altered
+-- what a send answers its caller is enough for SendCarried, if nothing else of the link is altered
 abbrev pub EverySendCarries : Type 0
 EverySendCarries =
     (t u : Link) (n : ℕ) (p : Parameters) (answer : Result ℕ Refusal)

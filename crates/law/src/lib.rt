@@ -113,8 +113,8 @@ pub fn sessions_grow()
     ensures { SessionsGrow }
 {}
 
-/// Carries a theorem: what a send answers its caller, and that nothing else of the link is altered, is enough for any run to go on by
-/// it, and the law with it.
+/// Carries a theorem: what a send answers its caller, and that nothing else of the link is altered, is enough for any run from a new
+/// link to go on by it, and the law with it.
 #[tactic(auto, using(crate::proofs::Sessions::every_send_carries))]
 pub fn every_send_carries()
     ensures { EverySendCarries }
@@ -170,9 +170,9 @@ pub fn worked_listing()
     ensures { WorkedListing }
 {}
 
-/// Carries a theorem: there is a run in which the premises of the law hold. The ends' memories are more than ten grains apart; 256
-/// packets in a row are read at their rates and with their LSP codes, with a blank, a corrected packet and one with a wrong PCB[0] among them; and a packet with two
-/// wrong bits is erased.
+/// Carries a theorem: there is a run in which the premises of the law hold. The ends' memories are more than ten grains apart right
+/// after frame 2; 256 packets in a row are read at their rates and with their LSP codes, with a blank, a corrected packet and one with a
+/// wrong PCB[0] among them; and a packet with two wrong guarded bits is erased.
 #[tactic(auto, using(crate::proofs::Example::example_run))]
 pub fn example_run()
     ensures { ExampleRun }

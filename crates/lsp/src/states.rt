@@ -20,8 +20,9 @@ fn bias(lsp: Lsp) -> i64
 /// The LSP memories of an end, in grains, LSP 1 first. None reaches 2^33 in size.
 #[derive(Clone, Copy, PartialEq, Eq, Debug)]
 pub struct Memories {
-    grains: [i64; 10],
-    ghost in_range: { InRange grains },
+    /// The memories, LSP 1 first.
+    pub grains: [i64; 10],
+    pub ghost in_range: { InRange grains },
 }
 
 impl Default for Memories {

@@ -13,7 +13,8 @@ pub use input::read_up_to;
 use std::io;
 use std::process::ExitCode;
 
-/// The status of a program: 0, or 1 for an error, which is printed on standard error as one sentence under the program's name.
+/// The status of a program: 0, or 1 for an error. An error is also printed on standard error, as one sentence under the program's
+/// name; of that nothing is promised.
 pub fn exit_code(rt: &impl Eprint, name: &str, outcome: anyhow::Result<()>) -> ExitCode
     ensures { MatchResult outcome (λ _. exit_status result ≡ 0) (λ _. exit_status result ≡ 1) }
 {
@@ -26,7 +27,7 @@ pub fn exit_code(rt: &impl Eprint, name: &str, outcome: anyhow::Result<()>) -> E
     }
 }
 
-/// The error of a standard input that cannot be read.
+/// The error of a standard input that cannot be read: this message, on some error. That it is the cause is not promised.
 pub fn unreadable(cause: io::Error) -> anyhow::Error
     ensures { IsContextOn (IsMadeOf None)
         (Some (codes "standard input cannot be read")) result }
@@ -34,7 +35,7 @@ pub fn unreadable(cause: io::Error) -> anyhow::Error
     anyhow::Error::from(cause).context("standard input cannot be read")
 }
 
-/// The error of a standard output that cannot be written.
+/// The error of a standard output that cannot be written: this message, on some error. That it is the cause is not promised.
 pub fn unwritable(cause: io::Error) -> anyhow::Error
     ensures { IsContextOn (IsMadeOf None)
         (Some (codes "standard output cannot be written")) result }

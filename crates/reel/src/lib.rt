@@ -93,8 +93,10 @@ impl<'a> Reel<'a> {
 /// The records of a reel that are left.
 #[derive(Clone, Debug, Drop)]
 pub struct Iter<'a> {
-    reel: Reel<'a>,
-    at: usize,
+    /// The reel.
+    pub reel: Reel<'a>,
+    /// How many of its records were given; the next is the one at this place of the list, from 0.
+    pub at: usize,
 }
 
 impl<'a> Iterator for Iter<'a> {

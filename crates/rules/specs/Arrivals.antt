@@ -34,8 +34,8 @@ are_lawful (a ∷ list) = is_lawful a && are_lawful list
 
 -- ---- an arrival is made
 
--- what the packet of a category is faulted for, at the place that the caller names; the tests are made in the order 6,
--- 9
+-- what the packet of a category is faulted for, at the place that the caller names; the length is tested before the
+-- spare bits (refusals 6 and 9)
 abbrev pub PacketFault : ℕ → Category → List ℕ → Fault → Type 0
 PacketFault place c bytes (Length i) = (i ≡ place) × (wrong_length c (length bytes) ≡ true)
 PacketFault place c bytes (SpareBits i) =

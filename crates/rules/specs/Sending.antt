@@ -14,9 +14,8 @@ use Rattle.packet.specs.declared.codes.CodeNumbers.{CodeNumbers}
 use Rattle.packet.specs.Bits.{bit}
 use Rattle.packet.specs.Calls.{packet}
 use Rattle.figures.specs.declared.codebook.CodebookParameter.{CodebookParameter}
-use Rattle.figures.specs.Codebook.{EncodesCodebooks, RefusesCodebooks}
-use Rattle.figures.specs.Frame.{CodebooksAllowed, PitchesAllowed}
-use Rattle.figures.specs.Pitch.{EncodesPitches, RefusesPitches}
+use Rattle.figures.specs.Codebook.{CodebooksAllowed, EncodesCodebooks, RefusesCodebooks}
+use Rattle.figures.specs.Pitch.{EncodesPitches, PitchesAllowed, RefusesPitches}
 use Rattle.rules.specs.Arrivals.{Arrival}
 use Rattle.rules.specs.Readings.{AllOnes, last_pitch}
 use Rattle.rules.specs.Ends.{Sender}

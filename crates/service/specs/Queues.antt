@@ -9,7 +9,7 @@ max_places = 256
 abbrev pub places_in : ℕ → ℕ
 places_in n = min n max_places
 
--- the part of a memory that a queue leaves alone: what lies behind its places
+-- the part of a memory that lies behind these places
 abbrev pub unused : {A : Type 0} → List A → List A
 unused memory = drop max_places memory
 

@@ -22,7 +22,7 @@ pub enum Letter {
 /// Which of three ended a run of takes. They are tested in this order before each take.
 #[derive(Clone, Copy, PartialEq, Eq, Debug)]
 pub enum RunEnd {
-    /// 1: the number of frames wanted was reached.
+    /// 1: the number of rows wanted was reached.
     Wanted = 1,
     /// 2: the queue of rows was full.
     RowsFull = 2,
