@@ -43,7 +43,7 @@ Agreement =
     (m n : List ℤ) → InRange m → InRange n → (recent recent' : List Event) → Same256 recent recent'
     → Agree (after m recent) (after n recent')
 
--- and so do the memories of two ends, after whatever lawful past each has
+-- the memories of two ends agree after the same 256 events, whatever lawful past each has
 abbrev pub EndsAgree : Type 0
 EndsAgree =
     (past past' recent recent' : List Event) → Lawful past → Lawful past' → Same256 recent recent'

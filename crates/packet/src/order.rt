@@ -17,7 +17,7 @@ const CBGAIN: usize = CodeName::Cbgain as usize;
 const CBSEED: usize = CodeName::Cbseed as usize;
 
 impl CodeNumbers {
-    /// The codes that stand in this order.
+    /// The codes of a list: LSP 1 to 10, PLAG 1 to 4, PGAIN 1 to 4, CBINDEX 1 to 8, CBGAIN 1 to 8 and CBSEED.
     pub fn from_order(codes: [u8; 35]) -> CodeNumbers
         ensures { result ≡ numbers_of codes }
     {
@@ -35,7 +35,7 @@ impl CodeNumbers {
         }
     }
 
-    /// The codes in this order.
+    /// The codes as a list: LSP 1 to 10, PLAG 1 to 4, PGAIN 1 to 4, CBINDEX 1 to 8, CBGAIN 1 to 8 and CBSEED.
     #[tactic(auto, using(crate::proofs::Fields::order_put))]
     pub fn in_order(self) -> [u8; 35]
         ensures { result ≡ in_order self }

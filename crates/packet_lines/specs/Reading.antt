@@ -53,7 +53,7 @@ abbrev pub decoded : Result (List ℕ) FromHexError → Result (List ℕ) Unread
 decoded (Ok bytes) = Ok bytes
 decoded (Err e) = Err Packet
 
--- and a hyphen for no bytes
+-- the bytes that a word stands for: none for a hyphen, else two hexadecimal digits a byte
 abbrev pub packet_bytes : List ℕ → Result (List ℕ) Unreadable
 packet_bytes w = if bytes_eq w (codes "-") then Ok [] else if length w == 0 then Err Packet else decoded (decode_of w)
 

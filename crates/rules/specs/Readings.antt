@@ -58,16 +58,16 @@ IsNotRead letter l x = (l ≡ letter) × (x ≡ None)
 abbrev pub AllOnes : Rate → List ℕ → Type 0
 AllOnes rate bytes = (k : ℕ) → k < (rate_is rate).bits → bit_at bytes k ≡ 1
 
--- A suspect packet is read as it came if its syndrome is 0, whatever PCB[0] is;
+-- a suspect packet is read as it came if its syndrome is 0, whatever PCB[0] is
 abbrev pub ReadsSuspectAsItCame : List ℕ → Letter → Option Reading → Type 0
 ReadsSuspectAsItCame bytes l x = (syndrome (word_of bytes) ≡ 0) × IsReadWithPitchOff P bytes l x
 
--- it is read with one bit corrected if the parity is odd and the syndrome points at that bit;
+-- a suspect packet is read with one bit corrected if the parity is odd and the syndrome points at that bit
 abbrev pub ReadsSuspectCorrected : List ℕ → Letter → Option Reading → Type 0
 ReadsSuspectCorrected bytes l x =
     (p : ℕ) × Corrects (word_of bytes) p × IsReadWithPitchOff S (corrected_packet p bytes) l x
 
--- and any other is not read.
+-- a suspect packet is not read if its syndrome is not 0 and no bit is to be corrected
 abbrev pub ReadsSuspectNot : List ℕ → Letter → Option Reading → Type 0
 ReadsSuspectNot bytes l x =
     (syndrome (word_of bytes) ≢ 0) × ((p : ℕ) → Corrects (word_of bytes) p → ⊥) × IsNotRead D l x
