@@ -1,5 +1,5 @@
 -- How many cases of a file were compared, and how many of them are not as they should be.
-use Rattle.std.specs.Prelude.{◌≡◌, ℕ, ◌+◌, ◌⊎◌, List, [], ◌∷◌, ◌++◌, length, codes, decimal, string_bytes}
+use Rattle.std.specs.Prelude.{◌≡◌, ℕ, ◌+◌, ◌<◌, ◌⊎◌, List, [], ◌∷◌, ◌++◌, length, codes, decimal, string_bytes}
 use Rattle.std.specs.Prelude.{MatchOption}
 use Rattle.std.specs.List.{flat_map}
 use Rattle.vector_check.specs.declared.tallies.Tally.{Tally}
@@ -22,6 +22,14 @@ pub record Tallied (IsRight : List ℕ → Type 0) (Names : List ℕ → List �
   pub compared : t.compared ≡ length lines
   pub differ : t.differ ≡ length texts
   pub named : printed ≡ flat_map (λ text. text ++ codes "\n") texts
+
+-- a tally is that of all of these lines, whatever is printed of them
+abbrev pub IsTallyOf : (List ℕ → Type 0) → (List ℕ → List ℕ → Type 0) → List (List ℕ) → Tally → Type 0
+IsTallyOf IsRight Names lines t = (printed : List ℕ) × Tallied IsRight Names lines t printed
+
+-- something was compared, and nothing differs
+abbrev pub IsAllRight : Tally → Type 0
+IsAllRight t = (0 < t.compared) × (t.differ ≡ 0)
 
 -- the first line that has not the form of its file, and the tally of those before it
 pub record EndsAtMalformed (IsCase IsRight : List ℕ → Type 0) (Names : List ℕ → List ℕ → Type 0) (lines : List (List ℕ))

@@ -1,6 +1,10 @@
 //! Compares this program's answers with a folder of reference vectors, which a separate program computed.
 #![tactic(auto)]
 
+ghost use Rattle.std.specs.Prelude.{IfOk};
+ghost use Rattle.std.specs.Str.Lines.{lines};
+ghost use Rattle.vector_check.specs.Tallies.{IsTallyOf};
+
 mod comparing;
 mod differences;
 mod files;
@@ -16,8 +20,9 @@ use crate::files::CaseFile;
 use crate::limits::LimitFile;
 use crate::packs::PackFile;
 use crate::reels::ReelFile;
+use crate::tallies::{Tally, verdict};
 use crate::unpacks::UnpackFile;
-use anyhow::{Context, bail, ensure};
+use anyhow::{Context, bail};
 use program::{Asked, exit_code, unwritable};
 use std::collections::BTreeMap;
 use std::process::ExitCode;
@@ -31,8 +36,8 @@ Usage: vector_check FOLDER
 Compares our answers with the reference vectors in a folder: names each difference, and
 prints for each file of cases how many were compared and how many differ. The status is 1,
 with a sentence on standard error, if any differs, a file cannot be read, a line does not
-have the form of its file, there is nothing to compare, the output cannot be written, or it
-is not given one folder.";
+have the form of its file, there is nothing to compare, the output cannot be written, memory
+runs out, or it is not given one folder.";
 
 fn main(rt: HostRuntime) -> ExitCode {
     exit_code(&rt, "vector_check", run(&rt))
@@ -49,14 +54,15 @@ fn run(rt: &HostRuntime) -> anyhow::Result<()> {
     }
 }
 
-/// Compares the cases of each file of a folder. It is an error if any differs.
+/// Compares the cases of each file of a folder. It is an error if any differs, or a file has none.
 fn compare_folder(vectors: Vectors<'_>) -> anyhow::Result<()> {
-    let reels = vectors.compare_reels()?;
-    let packs = vectors.compare_file("pack", &PackFile)?;
-    let limits = vectors.compare_file("pack-limits", &LimitFile)?;
-    let unpacks = vectors.compare_file("unpack", &UnpackFile)?;
-    ensure!(reels && packs && limits && unpacks, "some answers differ");
-    Ok(())
+    let tallies = [
+        vectors.compare_reels()?,
+        vectors.compare_file("pack", &PackFile)?,
+        vectors.compare_file("pack-limits", &LimitFile)?,
+        vectors.compare_file("unpack", &UnpackFile)?,
+    ];
+    Ok(verdict(&tallies)?)
 }
 
 /// A folder of reference vectors.
@@ -67,22 +73,24 @@ struct Vectors<'a> {
 }
 
 impl Vectors<'_> {
-    /// Compares the cases of reel-check.txt, and answers whether none differs.
-    fn compare_reels(self) -> anyhow::Result<bool> {
+    /// Compares the cases of reel-check.txt, and answers their tally.
+    fn compare_reels(self) -> anyhow::Result<Tally> {
         let cases = self.read_cases("reel-check")?;
         let reels = self.read_reels(cases.as_str())?;
         self.report("reel-check", &ReelFile { reels }, cases.as_str())
     }
 
-    /// Compares the cases of a file, and answers whether none differs.
-    fn compare_file<F: CaseFile>(self, name: &str, file: &F) -> anyhow::Result<bool> {
+    /// Compares the cases of a file, and answers their tally.
+    fn compare_file<F: CaseFile>(self, name: &str, file: &F) -> anyhow::Result<Tally> {
         let cases = self.read_cases(name)?;
         self.report(name, file, cases.as_str())
     }
 
-    /// Prints what differs in the cases of a file and how many differ, and answers whether none does. It is an error if a
-    /// line does not have the form of the file, or there are no cases.
-    fn report<F: CaseFile>(self, name: &str, file: &F, cases: &str) -> anyhow::Result<bool> {
+    /// Prints what differs in the cases of a file and how many differ, and answers the tally of all its lines. It is an error
+    /// if a line does not have the form of the file.
+    fn report<F: CaseFile>(self, name: &str, file: &F, cases: &str) -> anyhow::Result<Tally>
+        ensures { IfOk result (IsTallyOf (F.is_right file.now) (F.names file.now) (lines cases.now)) }
+    {
         let rt = self.rt;
         let Comparison {
             tally,
@@ -93,9 +101,8 @@ impl Vectors<'_> {
         if let Some(malformed) = malformed {
             bail!("{name}.txt has {malformed}");
         }
-        println!(rt; "{name}: {tally}")?;
-        ensure!(tally.compared > 0, "there was nothing to compare");
-        Ok(tally.differ == 0)
+        println!(rt; "{name}: {tally}").map_err(unwritable)?;
+        Ok(tally)
     }
 
     /// The text of a file of cases.

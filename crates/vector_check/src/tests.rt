@@ -3,7 +3,7 @@ use crate::files::{CaseFile, Malformed};
 use crate::limits::LimitFile;
 use crate::packs::PackFile;
 use crate::reels::ReelFile;
-use crate::tallies::Tally;
+use crate::tallies::{Fault, Tally, verdict};
 use crate::unpacks::UnpackFile;
 use std::alloc::Global;
 use std::collections::BTreeMap;
@@ -138,4 +138,22 @@ fn names_what_a_line_lacks(rt: HostRuntime) -> Result<(), Fail> {
     check_malformed(heap, &UnpackFile, unpacks.as_str(), Malformed::Answer)?;
     let cases = format!(in heap; "{REELS}refuse-1-two refused 1\nexample ok")?;
     check_malformed(heap, &reels(heap)?, cases.as_str(), Malformed::Reel)
+}
+
+#[test]
+fn judges_tallies(rt: HostRuntime) {
+    let right = Tally {
+        compared: 2,
+        differ: 0,
+    };
+    let wrong = Tally {
+        compared: 2,
+        differ: 1,
+    };
+    assert_eq!(rt; verdict(&[right, right]), Ok(()));
+    assert_eq!(rt; verdict(&[right, wrong]), Err(Fault::SomeDiffer));
+    assert_eq!(rt;
+        verdict(&[Tally::default(), right]),
+        Err(Fault::NothingCompared)
+    );
 }
