@@ -167,9 +167,9 @@ right_as line x p (y, q, right) =
 pub limit_judged : {X : Type 0} (bytes : X → List ℕ) (line : List ℕ) (x : Limit) (found : Option X) → LimitLine line x
     → Finds (AnswersLimit x) (limit_text x) x.answer (option_map bytes found)
     → Judges bytes (IsLimitCase line) (IsRightLimit line) (NamesLimit line) (Ok found)
-limit_judged bytes line x None p f = (x, p, f)
+limit_judged bytes line x None p f = ((x, p), (x, p, f))
 limit_judged bytes line x (Some s) p f =
-    (λ right. differs (AnswersLimit x) (limit_text x) x.answer (bytes s) (one_in_room x.rate x.numbers x.room) f (right_as line x p right), (x, p, f))
+    ((x, p), λ right. differs (AnswersLimit x) (limit_text x) x.answer (bytes s) (one_in_room x.rate x.numbers x.room) f (right_as line x p right), (x, p, f))
 
 -- an error of reading codes goes on
 pub no_codes_read : (line v l a : List ℕ) (e : CaseError) → LimitParts line v l a

@@ -46,14 +46,10 @@ pub pack_judged : {X : Type 0} (bytes : X → List ℕ) (line r v p : List ℕ) 
 pack_judged bytes line r v p None a f =
     let none = both_none f.packed f.unpacked f.both in
     let P = pack_of r v in
-    let U = unpack_of r p in (
-      r,
-      v,
-      p,
-      a,
-      record {
-        packs = subst (λ o. Finds (Answers P) P p o) none.0 f.packs;
-        unpacks = subst (λ o. Finds (Answers U) U v o) none.1 f.unpacks;
-      },
-    )
-pack_judged bytes line r v p (Some s) a f = (not_right line r v p (bytes s) a f, (r, v, p, a, f))
+    let U = unpack_of r p in
+    let right : RightPack r v p = record {
+      packs = subst (λ o. Finds (Answers P) P p o) none.0 f.packs;
+      unpacks = subst (λ o. Finds (Answers U) U v o) none.1 f.unpacks;
+    } in
+    ((r, v, p, a), (r, v, p, a, right))
+pack_judged bytes line r v p (Some s) a f = ((r, v, p, a), not_right line r v p (bytes s) a f, (r, v, p, a, f))

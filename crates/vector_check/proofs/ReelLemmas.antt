@@ -32,8 +32,9 @@ module _ (read : List ℕ → Option (List ℕ)) where
   pub reel_judged : {X : Type 0} (bytes : X → List ℕ) (line n b t : List ℕ) (found : Option X) → ReelLine read line n b t
       → Finds (AnswersReel b) (codes "reel-check " ++ n) t (option_map bytes found)
       → Judges bytes (IsReelCase read line) (IsRightReel read line) (NamesReel read line) (Ok found)
-  reel_judged bytes line n b t None a f = (n, b, t, a, f)
+  reel_judged bytes line n b t None a f = ((n, b, t, a), (n, b, t, a, f))
   reel_judged bytes line n b t (Some s) a f = (
+    (n, b, t, a),
     λ right. differs (AnswersReel b) (codes "reel-check " ++ n) t (bytes s) (λ x y p q. p ∙ sym q) f (right_as line n b t a right),
     (n, b, t, a, f),
   )

@@ -3,12 +3,13 @@ use Rattle.std.proofs.Common.{◌≡◌, ℕ, ◌+◌, ◌≤◌, List, [], ◌�
 use Rattle.std.specs.List.{flat_map}
 use Rattle.std.specs.String.{string_bytes}
 use Rattle.std.proofs.lemmas.List.{append-nil, map_more, map-append, take-append-drop}
+use Rattle.std.proofs.lemmas.List.Elements.{All-nil, All-push}
 use Rattle.std.proofs.lemmas.List.Concat.{flat_map-append}
 use Rattle.vector_check.specs.declared.tallies.Tally.{Tally}
 use Rattle.vector_check.specs.declared.comparing.Comparison.{Comparison}
 use Rattle.vector_check.specs.Tallies.{AddsLine, AddsRight, AddsWrong, NamesEachWrong, Tallied}
 
-module _ (IsRight : List ℕ → Type 0) (Names : List ℕ → List ℕ → Type 0) where
+module _ (IsCase IsRight : List ℕ → Type 0) (Names : List ℕ → List ℕ → Type 0) where
   names_right : (lines texts : List (List ℕ)) (line : List ℕ) → NamesEachWrong IsRight Names lines texts → IsRight line
       → NamesEachWrong IsRight Names (lines ++ line ∷ []) texts
   names_right [] texts line e right = inl (right, e)
@@ -23,13 +24,14 @@ module _ (IsRight : List ℕ → Type 0) (Names : List ℕ → List ℕ → Type
   names_wrong (x ∷ xs) texts line t (inr (other, (text, rest, e, is, h))) wrong named =
       inr (other, (text, rest ++ t ∷ [], ap (λ ts. ts ++ t ∷ []) e, is, names_wrong xs rest line t h wrong named))
 
-  pub tallied_none : (t : Tally) (printed : List ℕ) → t.compared ≡ 0 → t.differ ≡ 0 → printed ≡ [] → Tallied IsRight Names [] t printed
-  tallied_none t printed c d e = record { texts = []; each = refl; compared = c; differ = d; named = e }
+  pub tallied_none : (t : Tally) (printed : List ℕ) → t.compared ≡ 0 → t.differ ≡ 0 → printed ≡ [] → Tallied IsCase IsRight Names [] t printed
+  tallied_none t printed c d e = record { cases = All-nil IsCase; texts = []; each = refl; compared = c; differ = d; named = e }
 
   right_more : (lines : List (List ℕ)) (line : List ℕ) (old new : Comparison)
-      → Tallied IsRight Names lines old.tally (string_bytes old.differences) → IsRight line → AddsRight old new
-      → Tallied IsRight Names (lines ++ line ∷ []) new.tally (string_bytes new.differences)
-  right_more lines line old new h right a = record {
+      → Tallied IsCase IsRight Names lines old.tally (string_bytes old.differences) → IsCase line → IsRight line → AddsRight old new
+      → Tallied IsCase IsRight Names (lines ++ line ∷ []) new.tally (string_bytes new.differences)
+  right_more lines line old new h case right a = record {
+    cases = All-push IsCase lines line h.cases case;
     texts = h.texts;
     each = names_right lines h.texts line h.each right;
     compared = a.compared ∙ ap (λ n. n + 1) h.compared ∙ sym (length-append lines (line ∷ []));
@@ -38,12 +40,13 @@ module _ (IsRight : List ℕ → Type 0) (Names : List ℕ → List ℕ → Type
   }
 
   wrong_more : (lines : List (List ℕ)) (line text : List ℕ) (old new : Comparison)
-      → Tallied IsRight Names lines old.tally (string_bytes old.differences) → (IsRight line → ⊥) → Names line text → AddsWrong old text new
-      → Tallied IsRight Names (lines ++ line ∷ []) new.tally (string_bytes new.differences)
-  wrong_more lines line text old new h wrong names a =
+      → Tallied IsCase IsRight Names lines old.tally (string_bytes old.differences) → IsCase line → (IsRight line → ⊥) → Names line text → AddsWrong old text new
+      → Tallied IsCase IsRight Names (lines ++ line ∷ []) new.tally (string_bytes new.differences)
+  wrong_more lines line text old new h case wrong names a =
       let more : flat_map (λ u. u ++ codes "\n") (h.texts ++ text ∷ []) ≡ flat_map (λ u. u ++ codes "\n") h.texts ++ (text ++ codes "\n")
       = flat_map-append (λ u. u ++ codes "\n") h.texts (text ∷ []) ∙ ap (λ l. flat_map (λ u. u ++ codes "\n") h.texts ++ l) (append-nil (text ++ codes "\n")) in
       record {
+        cases = All-push IsCase lines line h.cases case;
         texts = h.texts ++ text ∷ [];
         each = names_wrong lines h.texts line text h.each wrong names;
         compared = a.compared ∙ ap (λ n. n + 1) h.compared ∙ sym (length-append lines (line ∷ []));
@@ -52,23 +55,23 @@ module _ (IsRight : List ℕ → Type 0) (Names : List ℕ → List ℕ → Type
       }
 
   pub tallied_more : (lines : List (List ℕ)) (line : List ℕ) (old new : Comparison)
-      → Tallied IsRight Names lines old.tally (string_bytes old.differences) → AddsLine (IsRight line) (Names line) old new
-      → Tallied IsRight Names (lines ++ line ∷ []) new.tally (string_bytes new.differences)
-  tallied_more lines line old new h (inl (right, a)) = right_more lines line old new h right a
-  tallied_more lines line old new h (inr (text, wrong, names, a)) = wrong_more lines line text old new h wrong names a
+      → Tallied IsCase IsRight Names lines old.tally (string_bytes old.differences) → AddsLine (IsCase line) (IsRight line) (Names line) old new
+      → Tallied IsCase IsRight Names (lines ++ line ∷ []) new.tally (string_bytes new.differences)
+  tallied_more lines line old new h (case, inl (right, a)) = right_more lines line old new h case right a
+  tallied_more lines line old new h (case, inr (text, wrong, names, a)) = wrong_more lines line text old new h case wrong names a
 
 abbrev pub Within : Tally → Type 0
 Within t = t.differ ≤ t.compared
 
-pub within_more : (IsRight : Type 0) (Names : List ℕ → Type 0) (old new : Comparison) → Within old.tally → AddsLine IsRight Names old new
+pub within_more : (IsCase IsRight : Type 0) (Names : List ℕ → Type 0) (old new : Comparison) → Within old.tally → AddsLine IsCase IsRight Names old new
     → Within new.tally
-within_more IsRight Names old new h (inl (right, a)) = omega (arith, a.compared, a.differ)
-within_more IsRight Names old new h (inr (text, wrong, names, a)) = omega (arith, a.compared, a.differ)
+within_more IsCase IsRight Names old new h (case, inl (right, a)) = omega (arith, a.compared, a.differ)
+within_more IsCase IsRight Names old new h (case, inr (text, wrong, names, a)) = omega (arith, a.compared, a.differ)
 
-pub whole_more : (IsRight : Type 0) (Names : List ℕ → Type 0) (old new : Comparison) → AddsLine IsRight Names old new
+pub whole_more : (IsCase IsRight : Type 0) (Names : List ℕ → Type 0) (old new : Comparison) → AddsLine IsCase IsRight Names old new
     → new.malformed ≡ old.malformed
-whole_more IsRight Names old new (inl (right, a)) = a.malformed
-whole_more IsRight Names old new (inr (text, wrong, names, a)) = a.malformed
+whole_more IsCase IsRight Names old new (case, inl (right, a)) = a.malformed
+whole_more IsCase IsRight Names old new (case, inr (text, wrong, names, a)) = a.malformed
 
 -- a line stands between those before it and those behind it
 pub parts_at : {X : Type 0} (f : X → List ℕ) (xs : List X) (i : ℕ) (d : X) → i < length xs

@@ -34,7 +34,7 @@ right_as line r b t a (r', b', t', k, right) =
 pub unpack_judged : {X : Type 0} (bytes : X → List ℕ) (line r b t : List ℕ) (found : Option X) → UnpackLine line r b t
     → Finds (Answers (unpack_of r b)) (unpack_of r b) t (option_map bytes found)
     → Judges bytes (IsUnpackCase line) (IsRightUnpack line) (NamesUnpack line) (Ok found)
-unpack_judged bytes line r b t None a f = (r, b, t, a, f)
+unpack_judged bytes line r b t None a f = ((r, b, t, a), (r, b, t, a, f))
 unpack_judged bytes line r b t (Some s) a f =
     let U = unpack_of r b in
-    (λ right. differs (Answers U) U t (bytes s) (one_answer_to_each_line U) f (right_as line r b t a right), (r, b, t, a, f))
+    ((r, b, t, a), λ right. differs (Answers U) U t (bytes s) (one_answer_to_each_line U) f (right_as line r b t a right), (r, b, t, a, f))

@@ -23,12 +23,12 @@ joined None second = second
 joined (Some first) None = Some first
 joined (Some first) (Some second) = Some (first ++ (codes "\n" ++ second))
 
--- what comparing a case tells, seen by its bytes: that it is right; that it is not, and a text that names what differs;
--- that the line has not the form of its file; or that memory ran out
+-- what comparing a case tells, seen by its bytes: that the line has the form of its file and is right; that it has the
+-- form and is not right, and a text that names what differs; that it has not the form; or that memory ran out
 abbrev pub Judges :
     {X : Type 0} → (X → List ℕ) → Type 0 → Type 0 → (List ℕ → Type 0) → Result (Option X) CaseError → Type 0
-Judges bytes IsCase IsRight Names (Ok None) = IsRight
-Judges bytes IsCase IsRight Names (Ok (Some s)) = (IsRight → ⊥) × Names (bytes s)
+Judges bytes IsCase IsRight Names (Ok None) = IsCase × IsRight
+Judges bytes IsCase IsRight Names (Ok (Some s)) = IsCase × (IsRight → ⊥) × Names (bytes s)
 Judges bytes IsCase IsRight Names (Err (Line reason)) = IsCase → ⊥
 Judges bytes IsCase IsRight Names (Err OutOfMemory) = Unit {0}
 

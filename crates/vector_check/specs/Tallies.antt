@@ -1,5 +1,5 @@
 -- How many cases of a file were compared, and how many of them are not as they should be.
-use Rattle.std.specs.Prelude.{◌≡◌, ℕ, ◌+◌, ◌<◌, ◌⊎◌, List, [], ◌∷◌, ◌++◌, length, codes, decimal, string_bytes}
+use Rattle.std.specs.Prelude.{◌≡◌, ℕ, ◌+◌, ◌<◌, ◌⊎◌, All, List, [], ◌∷◌, ◌++◌, length, codes, decimal, string_bytes}
 use Rattle.std.specs.Prelude.{MatchOption}
 use Rattle.std.specs.List.{flat_map}
 use Rattle.vector_check.specs.declared.tallies.Tally.{Tally}
@@ -14,9 +14,11 @@ NamesEachWrong IsRight Names (line ∷ lines) texts =
     ⊎ ((IsRight line → ⊥) × ((text : List ℕ) × (rest : List (List ℕ)) × (texts ≡ text ∷ rest) × Names line text
     × NamesEachWrong IsRight Names lines rest))
 
--- all of these lines are counted, and those that are not right are counted and named, a line for each
-pub record Tallied (IsRight : List ℕ → Type 0) (Names : List ℕ → List ℕ → Type 0) (lines : List (List ℕ)) (t : Tally)
-    (printed : List ℕ) : Type 0 where
+-- all of these lines have the form of their file and are counted, and those that are not right are counted and named, a
+-- line for each
+pub record Tallied (IsCase IsRight : List ℕ → Type 0) (Names : List ℕ → List ℕ → Type 0) (lines : List (List ℕ))
+    (t : Tally) (printed : List ℕ) : Type 0 where
+  pub cases : All IsCase lines
   pub texts : List (List ℕ)
   pub each : NamesEachWrong IsRight Names lines texts
   pub compared : t.compared ≡ length lines
@@ -24,8 +26,9 @@ pub record Tallied (IsRight : List ℕ → Type 0) (Names : List ℕ → List �
   pub named : printed ≡ flat_map (λ text. text ++ codes "\n") texts
 
 -- a tally is that of all of these lines, whatever is printed of them
-abbrev pub IsTallyOf : (List ℕ → Type 0) → (List ℕ → List ℕ → Type 0) → List (List ℕ) → Tally → Type 0
-IsTallyOf IsRight Names lines t = (printed : List ℕ) × Tallied IsRight Names lines t printed
+abbrev pub IsTallyOf :
+    (IsCase IsRight : List ℕ → Type 0) → (List ℕ → List ℕ → Type 0) → List (List ℕ) → Tally → Type 0
+IsTallyOf IsCase IsRight Names lines t = (printed : List ℕ) × Tallied IsCase IsRight Names lines t printed
 
 -- something was compared, and nothing differs
 abbrev pub IsAllRight : Tally → Type 0
@@ -38,17 +41,17 @@ pub record EndsAtMalformed (IsCase IsRight : List ℕ → Type 0) (Names : List 
   pub line : List ℕ
   pub after : List (List ℕ)
   pub parts : lines ≡ before ++ (line ∷ after)
-  pub tallied : Tallied IsRight Names before t printed
+  pub tallied : Tallied IsCase IsRight Names before t printed
   pub malformed : IsCase line → ⊥
 
 -- what comparing the lines of a file tells
 abbrev pub Compares :
     (IsCase IsRight : List ℕ → Type 0) → (List ℕ → List ℕ → Type 0) → List (List ℕ) → Comparison → Type 0
 Compares IsCase IsRight Names lines c =
-    MatchOption c.malformed (Tallied IsRight Names lines c.tally (string_bytes c.differences))
+    MatchOption c.malformed (Tallied IsCase IsRight Names lines c.tally (string_bytes c.differences))
     (λ _. EndsAtMalformed IsCase IsRight Names lines c.tally (string_bytes c.differences))
 
--- one line more is compared: it is right, or it is not and a text names what differs in it
+-- one line more is compared: it has the form of its file, and it is right, or it is not and a text names what differs in it
 pub record AddsRight (old new : Comparison) : Type 0 where
   pub compared : new.tally.compared ≡ old.tally.compared + 1
   pub differ : new.tally.differ ≡ old.tally.differ
@@ -61,10 +64,11 @@ pub record AddsWrong (old : Comparison) (text : List ℕ) (new : Comparison) : T
   pub named : string_bytes new.differences ≡ string_bytes old.differences ++ (text ++ codes "\n")
   pub malformed : new.malformed ≡ old.malformed
 
-abbrev pub AddsLine : Type 0 → (List ℕ → Type 0) → Comparison → Comparison → Type 0
-AddsLine IsRight Names old new =
-    (IsRight × AddsRight old new)
-    ⊎ ((text : List ℕ) × (IsRight → ⊥) × Names text × AddsWrong old text new)
+abbrev pub AddsLine : (IsCase IsRight : Type 0) → (List ℕ → Type 0) → Comparison → Comparison → Type 0
+AddsLine IsCase IsRight Names old new =
+    IsCase
+    × ((IsRight × AddsRight old new)
+    ⊎ ((text : List ℕ) × (IsRight → ⊥) × Names text × AddsWrong old text new))
 
 -- a tally as it is printed
 abbrev pub tally_text : Tally → List ℕ

@@ -14,7 +14,8 @@ pub(crate) struct Comparison {
     pub(crate) tally: Tally,
     /// What differs, a line for each answer.
     pub(crate) differences: String,
-    /// What the first line lacks that does not have the form of the file, if there is one. Nothing behind it is compared.
+    /// Something if there is a line that does not have the form of the file. The first such line ends the comparison: it and
+    /// what stands behind it are not compared.
     pub(crate) malformed: Option<Malformed>,
 }
 
@@ -71,8 +72,8 @@ impl Comparison {
         }
     }
 
-    // Compares the case of one more line. What the line lacks, if it does not have the form of the file, is answered, and then
-    // all is as it was.
+    // Compares the case of one more line. If it does not have the form of the file, a reason is answered, and then all is as it
+    // was.
     fn compare_line<F: CaseFile>(
         &mut self,
         heap: Global,
@@ -82,7 +83,8 @@ impl Comparison {
         requires room { self.old.tally.compared + 1 < 2 ^ 64 }
         requires within { self.old.tally.differ ≤ self.old.tally.compared }
         ensures { IfOk result (λ malformed. MatchOption malformed
-            (AddsLine (F.is_right file.now line.now) (F.names file.now line.now) self.old self.new)
+            (AddsLine (F.is_case file.now line.now) (F.is_right file.now line.now) (F.names file.now line.now)
+            self.old self.new)
             (λ _. (self.new ≡ self.old) × (F.is_case file.now line.now → ⊥))) }
     {
         match file.compare(heap, line) {

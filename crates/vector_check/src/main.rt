@@ -89,7 +89,7 @@ impl Vectors<'_> {
     /// Prints what differs in the cases of a file and how many differ, and answers the tally of all its lines. It is an error
     /// if a line does not have the form of the file.
     fn report<F: CaseFile>(self, name: &str, file: &F, cases: &str) -> anyhow::Result<Tally>
-        ensures { IfOk result (IsTallyOf (F.is_right file.now) (F.names file.now) (lines cases.now)) }
+        ensures { IfOk result (IsTallyOf (F.is_case file.now) (F.is_right file.now) (F.names file.now) (lines cases.now)) }
     {
         let rt = self.rt;
         let Comparison {

@@ -17,7 +17,7 @@ returns-in-Some g c =
       line = (get_or lines i blank).now;
       after = map (λ line. line.now) (drop (i + 1) lines);
       parts = parts_at (λ line. line.now) lines i blank c.loop-line-test.true;
-      tallied = subst (λ k. Tallied (g.F.CaseFile.is_right file) (g.F.CaseFile.names file) (map (λ line. line.now) (take i lines)) k.tally (string_bytes k.differences))
+      tallied = subst (λ k. Tallied (g.F.CaseFile.is_case file) (g.F.CaseFile.is_right file) (g.F.CaseFile.names file) (map (λ line. line.now) (take i lines)) k.tally (string_bytes k.differences))
           (sym ends.0) c.loop-line.invariant.tallied;
       malformed = ends.1;
     }
@@ -31,12 +31,13 @@ loop-line-preserved g c =
     let new = c.compare_line.new.self in
     let blank : Bor (List ℕ) = record { ref_ptr = (0, 0); now = [] } in
     let line = (get_or lines i blank).now in
+    let case = g.F.CaseFile.is_case file in
     let right = g.F.CaseFile.is_right file in
     let names = g.F.CaseFile.names file in
     let adds = rw c.in_default.is at c.in_ok-reason.ensures in
-    let more = tallied_more right names (map (λ line. line.now) (take i lines)) line old new c.loop-line.invariant.tallied adds in
+    let more = tallied_more case right names (map (λ line. line.now) (take i lines)) line old new c.loop-line.invariant.tallied adds in
     record {
-      whole = whole_more (right line) (names line) old new adds ∙ c.loop-line.invariant.whole;
-      within = within_more (right line) (names line) old new c.loop-line.invariant.within adds;
-      tallied = subst (λ ls. Tallied right names ls new.tally (string_bytes new.differences)) (sym (map_more (λ line. line.now) lines i blank c.loop-line-test.true)) more;
+      whole = whole_more (case line) (right line) (names line) old new adds ∙ c.loop-line.invariant.whole;
+      within = within_more (case line) (right line) (names line) old new c.loop-line.invariant.within adds;
+      tallied = subst (λ ls. Tallied case right names ls new.tally (string_bytes new.differences)) (sym (map_more (λ line. line.now) lines i blank c.loop-line-test.true)) more;
     }

@@ -9,6 +9,6 @@ abbrev pub invariant-loop-line : goal.invariant-loop-line
 invariant-loop-line g l = record {
   whole : l.comparison.malformed ≡ None;
   within : Within l.comparison.tally;
-  tallied : Tallied (g.F.CaseFile.is_right l.fn.file) (g.F.CaseFile.names l.fn.file) (map (λ line. line.now) (take l.line-index l.lines))
+  tallied : Tallied (g.F.CaseFile.is_case l.fn.file) (g.F.CaseFile.is_right l.fn.file) (g.F.CaseFile.names l.fn.file) (map (λ line. line.now) (take l.line-index l.lines))
       l.comparison.tally (string_bytes l.comparison.differences);
 }
