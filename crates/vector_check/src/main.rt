@@ -1,9 +1,9 @@
 //! Compares this program's answers with a folder of reference vectors, which a separate program computed.
 #![tactic(auto)]
 
-ghost use Rattle.std.specs.Prelude.{IfOk};
+ghost use Rattle.std.specs.Prelude.{All, IfOk};
 ghost use Rattle.std.specs.Str.Lines.{lines};
-ghost use Rattle.vector_check.specs.Tallies.{IsTallyOf};
+ghost use Rattle.vector_check.specs.Tallies.{IsAllRight, IsTallyOf};
 
 mod comparing;
 mod differences;
@@ -49,20 +49,24 @@ fn run(rt: &HostRuntime) -> anyhow::Result<()> {
         Asked::Help => println!(rt; "{HELP}").map_err(unwritable),
         Asked::Run => {
             let folder = words[0].as_str();
-            compare_folder(Vectors { rt, folder })
+            compare_folder(Vectors { rt, folder })?;
+            Ok(())
         }
     }
 }
 
-/// Compares the cases of each file of a folder. It is an error if any differs, or a file has none.
-fn compare_folder(vectors: Vectors<'_>) -> anyhow::Result<()> {
+/// Compares the cases of each file of a folder, and answers their tallies. It is an error if any differs, or a file has none.
+fn compare_folder(vectors: Vectors<'_>) -> anyhow::Result<[Tally; 4]>
+    ensures { IfOk result (All IsAllRight) }
+{
     let tallies = [
         vectors.compare_reels()?,
         vectors.compare_file("pack", &PackFile)?,
         vectors.compare_file("pack-limits", &LimitFile)?,
         vectors.compare_file("unpack", &UnpackFile)?,
     ];
-    Ok(verdict(&tallies)?)
+    verdict(&tallies)?;
+    Ok(tallies)
 }
 
 /// A folder of reference vectors.
