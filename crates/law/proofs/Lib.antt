@@ -23,6 +23,8 @@ pub mod OneSend
 pub mod OneTake
 pub mod OneAnswer
 pub mod OneRun
+pub mod OnePrint
+pub mod HandOvers
 pub mod Sessions
 pub mod Delivers
 pub mod Listing

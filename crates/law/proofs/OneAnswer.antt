@@ -5,15 +5,16 @@ use Rattle.service.specs.declared.refusals.Fault.{Fault}
 use Rattle.service.specs.declared.refusals.Fault.TheVariants.{UnknownCategory, Length, SpareBits}
 use Rattle.service.specs.declared.refusals.Refusal.{Refusal}
 use Rattle.service.specs.declared.refusals.Refusal.TheVariants.{Faulty, LineFull, NoArrival}
+use Rattle.service.specs.declared.categories.Category.{Category}
 use Rattle.service.specs.Categories.{category_of}
 use Rattle.service.specs.Tests.{spare_bits_set, unknown_category, wrong_length}
-use Rattle.rules.specs.Arrivals.{Arrival, MakesArrival, are_bytes, blank_arrival, is_lawful}
+use Rattle.rules.specs.Arrivals.{Arrival, MakesArrival, MakesPacket, are_bytes, blank_arrival, is_lawful}
 use Rattle.rules.specs.Sending.{Parameters}
 use Rattle.rules.specs.Ends.{Sender, new_receiver, new_sender}
 use Rattle.service.specs.Queues.{HasRoom, IsFull, Waits}
 use Rattle.rules.specs.Links.{Blanks, Disturbs, Line, Link, Sends, sender_after_blank, with_last, arrival_put}
 use Rattle.law.specs.Runs.{Blank, Call, Disturb, RestartReceiver, RestartSender, Send, Step, Take}
-use Rattle.law.specs.Answers.{Answered, Command, IsComplete, OneAnswerToEachCall, OneArrivalOrFault, blank, command_of, disturb, restart_receiver, restart_sender, send, take}
+use Rattle.law.specs.Answers.{Answered, Command, IsComplete, OneAnswerToEachCall, OneArrivalOrFault, OnePacketOrFault, blank, command_of, disturb, restart_receiver, restart_sender, send, take}
 use Rattle.law.proofs.Once.{Once, guard_once, leaf_once}
 use Rattle.law.proofs.OneSend.{send_once, send_some}
 use Rattle.law.proofs.OneTake.{from_supply_once, from_supply_some}
@@ -43,24 +44,29 @@ lawful_whole a size spare bytes = rw (size, spare, bytes) refl
 abbrev plain : Arrival → Arrival
 plain a = a
 
-module _ (place c : ℕ) (bytes : List ℕ) where
-  abbrev Made : Type 0
-  Made = Result Arrival Fault
+abbrev Made : Type 0
+Made = Result Arrival Fault
 
-  abbrev Fails : Bool → Fault → Made → Type 0
-  Fails b fault r = (b ≡ true) × (r ≡ Err fault)
+abbrev Fails : Bool → Fault → Made → Type 0
+Fails b fault r = (b ≡ true) × (r ≡ Err fault)
 
-  abbrev is_unknown : Bool
-  is_unknown = unknown_category c
+test_once : (b : Bool) (fault : Fault) (B : Made → Type 0) → Once B → Once (λ r. Fails b fault r ⊎ ((b ≡ false) × B r))
+test_once b fault B once =
+    guard_once (Fails b fault) (b ≡ false) B (λ r t f. false≢true (sym f ∙ t.0)) (leaf_once (b ≡ true) (Err fault)) once
+
+-- by a category
+module _ (place : ℕ) (category : Category) (bytes : List ℕ) where
+  abbrev packet : Arrival
+  packet = record { category = category; bytes = bytes }
 
   abbrev is_wrong : Bool
-  is_wrong = wrong_length (category_of c) (length bytes)
+  is_wrong = wrong_length category (length bytes)
 
   abbrev is_set : Bool
-  is_set = spare_bits_set (category_of c) bytes
+  is_set = spare_bits_set category bytes
 
   abbrev IsMade : Made → Type 0
-  IsMade r = r ≡ Ok (arrival_put c bytes)
+  IsMade r = r ≡ Ok packet
 
   abbrev AtSpare : Made → Type 0
   AtSpare r = Fails is_set (SpareBits place) r ⊎ ((is_set ≡ false) × IsMade r)
@@ -68,41 +74,69 @@ module _ (place c : ℕ) (bytes : List ℕ) where
   abbrev AtLength : Made → Type 0
   AtLength r = Fails is_wrong (Length place) r ⊎ ((is_wrong ≡ false) × AtSpare r)
 
-  abbrev AtCategory : Made → Type 0
-  AtCategory r = Fails is_unknown (UnknownCategory place) r ⊎ ((is_unknown ≡ false) × AtLength r)
+  length_once : Once AtLength
+  length_once =
+      test_once is_wrong (Length place) AtSpare
+      (test_once is_set (SpareBits place) IsMade (λ r r' e d. e ∙ sym d))
 
-  test_once : (b : Bool) (fault : Fault) (B : Made → Type 0) → Once B → Once (λ r. Fails b fault r ⊎ ((b ≡ false) × B r))
-  test_once b fault B once =
-      guard_once (Fails b fault) (b ≡ false) B (λ r t f. false≢true (sym f ∙ t.0)) (leaf_once (b ≡ true) (Err fault)) once
+  is_packet : (r : Made) → MakesPacket plain place category bytes r → AtLength r
+  is_packet (Ok a) (is, lawful) =
+      let tests = lawful_parts packet (subst (λ b. is_lawful b ≡ true) is lawful) in
+      inr (tests.size, inr (tests.spare, ap Ok is))
+  is_packet (Err (Length i)) (is, wrong) = inl (wrong, ap (λ j. Err (Length j)) is)
+  is_packet (Err (SpareBits i)) (is, right, set) = inr (right, inl (set, ap (λ j. Err (SpareBits j)) is))
+  is_packet (Err fault) none = absurd none
+
+  packet_once : (r r' : Made) → MakesPacket plain place category bytes r → MakesPacket plain place category bytes r' → r ≡ r'
+  packet_once r r' a b = length_once r r' (is_packet r a) (is_packet r' b)
+
+  packet_some : are_bytes bytes ≡ true → (r : Made) × MakesPacket plain place category bytes r
+  packet_some are = elim (cases_Bool is_wrong) [
+    | inl wrong ↦ (Err (Length place), (refl, wrong))
+    | inr right ↦ elim (cases_Bool is_set) [
+      | inl set ↦ (Err (SpareBits place), (refl, right, set))
+      | inr unset ↦ (Ok packet, (refl, lawful_whole packet right unset are))
+    ]
+  ]
+
+pub one_packet : OnePacketOrFault
+one_packet = record { some = packet_some; only = packet_once }
+
+-- by the number of a category
+module _ (place c : ℕ) (bytes : List ℕ) where
+  abbrev is_unknown : Bool
+  is_unknown = unknown_category c
+
+  abbrev AtCategory : Made → Type 0
+  AtCategory r = Fails is_unknown (UnknownCategory place) r ⊎ ((is_unknown ≡ false) × AtLength place (category_of c) bytes r)
 
   made_once : Once AtCategory
   made_once =
-      test_once is_unknown (UnknownCategory place) AtLength
-      (test_once is_wrong (Length place) AtSpare
-      (test_once is_set (SpareBits place) IsMade (λ r r' e d. e ∙ sym d)))
+      test_once is_unknown (UnknownCategory place) (AtLength place (category_of c) bytes) (length_once place (category_of c) bytes)
+
+  abbrev packet_is : (r : Made) → MakesPacket plain place (category_of c) bytes r → AtLength place (category_of c) bytes r
+  packet_is = is_packet place (category_of c) bytes
 
   is_made : (r : Made) → MakesArrival plain place c bytes r → AtCategory r
-  is_made (Ok a) (known, (is, lawful)) =
-      let tests = lawful_parts (arrival_put c bytes) (subst (λ b. is_lawful b ≡ true) is lawful) in
-      inr (known, inr (tests.size, inr (tests.spare, ap Ok is)))
+  is_made (Ok a) (known, made) = inr (known, packet_is (Ok a) made)
   is_made (Err (UnknownCategory i)) (is, unknown) = inl (unknown, ap (λ j. Err (UnknownCategory j)) is)
-  is_made (Err (Length i)) (known, (is, wrong)) = inr (known, inl (wrong, ap (λ j. Err (Length j)) is))
-  is_made (Err (SpareBits i)) (known, (is, right, set)) = inr (known, inr (right, inl (set, ap (λ j. Err (SpareBits j)) is)))
+  is_made (Err (Length i)) (known, fault) = inr (known, packet_is (Err (Length i)) fault)
+  is_made (Err (SpareBits i)) (known, fault) = inr (known, packet_is (Err (SpareBits i)) fault)
   is_made (Err fault) none = absurd none.1
 
   pub arrival_once : (r r' : Made) → MakesArrival plain place c bytes r → MakesArrival plain place c bytes r' → r ≡ r'
   arrival_once r r' a b = made_once r r' (is_made r a) (is_made r' b)
 
+  known_some : is_unknown ≡ false → (r : Made) → MakesPacket plain place (category_of c) bytes r → (r' : Made) × MakesArrival plain place c bytes r'
+  known_some known (Ok a) made = (Ok a, (known, made))
+  known_some known (Err (Length i)) fault = (Err (Length i), (known, fault))
+  known_some known (Err (SpareBits i)) fault = (Err (SpareBits i), (known, fault))
+  known_some known (Err fault) none = absurd none
+
   pub arrival_some : are_bytes bytes ≡ true → (r : Made) × MakesArrival plain place c bytes r
   arrival_some are = elim (cases_Bool is_unknown) [
     | inl unknown ↦ (Err (UnknownCategory place), (refl, unknown))
-    | inr known ↦ elim (cases_Bool is_wrong) [
-      | inl wrong ↦ (Err (Length place), (known, (refl, wrong)))
-      | inr right ↦ elim (cases_Bool is_set) [
-        | inl set ↦ (Err (SpareBits place), (known, (refl, right, set)))
-        | inr unset ↦ (Ok (arrival_put c bytes), (known, (refl, lawful_whole (arrival_put c bytes) right unset are)))
-      ]
-    ]
+    | inr known ↦ let (r, made) = packet_some place (category_of c) bytes are in known_some known r made
   ]
 
 pub one_arrival : OneArrivalOrFault

@@ -1,5 +1,5 @@
 -- Every call has an answer on every input, and only one.
-use Rattle.std.specs.Prelude.{◌≡◌, ℕ, true, is_some, List, ◌++◌, map, reverse, Ok, Some, Option, Result}
+use Rattle.std.specs.Prelude.{◌≡◌, ℕ, Bool, true, is_some, List, ◌++◌, length, map, reverse, Ok, Some, Option, Result}
 use Rattle.service.specs.declared.categories.Category.{Category}
 use Rattle.service.specs.declared.rates.Rate.{Rate}
 use Rattle.service.specs.declared.readings.Letter.{Letter}
@@ -9,12 +9,12 @@ use Rattle.service.specs.declared.refusals.Refusal.{Refusal}
 use Rattle.service.specs.Letters.{is_read}
 use Rattle.service.specs.Refusals.{Answer}
 use Rattle.figures.specs.FrameLaws.{FiguresReadAsSent, PairsReadAsSent}
-use Rattle.rules.specs.Arrivals.{Arrival, MakesArrival, are_bytes}
+use Rattle.rules.specs.Arrivals.{Arrival, Counts, HandedOver, HandsOver, MakesArrival, MakesPacket, are_bytes}
 use Rattle.rules.specs.Readings.{Reading, Reads}
-use Rattle.rules.specs.Ends.{Receiver, Sender, Taken, Takes}
+use Rattle.rules.specs.Ends.{Receiver, Receives, Sender, Taken, Takes, place_after}
 use Rattle.rules.specs.Sending.{AreComplete, CodesFrame, Parameters, Sent, arrival_sent}
 use Rattle.rules.specs.Links.{Line, Link, SendAnswers, link_after_take, to_come}
-use Rattle.rules.specs.Pages.{PageText}
+use Rattle.rules.specs.Pages.{PageText, Prints}
 use Rattle.rules.specs.Rows.{PageRows, Row, RunAnswer, RunState, RunsTakes, StartsPage, TakesAll}
 use Rattle.law.specs.Runs.{Call, CallMade, Send, Blank, Disturb, Take, RestartSender, RestartReceiver, Run, Step, now}
 
@@ -28,6 +28,15 @@ pub record OneArrivalOrFault : Type 0 where
   pub only :
       (place c : ℕ) (bytes : List ℕ) (r r' : Result Arrival Fault) → MakesArrival (λ a. a) place c bytes r
       → MakesArrival (λ a. a) place c bytes r' → r ≡ r'
+
+-- and so it is of a packet, whose category is known
+pub record OnePacketOrFault : Type 0 where
+  pub some :
+      (place : ℕ) (category : Category) (bytes : List ℕ) → are_bytes bytes ≡ true
+      → (r : Result Arrival Fault) × MakesPacket (λ a. a) place category bytes r
+  pub only :
+      (place : ℕ) (category : Category) (bytes : List ℕ) (r r' : Result Arrival Fault)
+      → MakesPacket (λ a. a) place category bytes r → MakesPacket (λ a. a) place category bytes r' → r ≡ r'
 
 -- every arrival is read in one way, whatever its bytes; and something is read exactly if its letter says so
 pub record OneReadingOfEachArrival : Type 0 where
@@ -92,7 +101,39 @@ pub record OneSendAnswer : Type 0 where
       (e d d' : Sender) (line l l' : Line) (n : ℕ) (p : Parameters) (r r' : Result ℕ Refusal)
       → SendAnswers e line n p r d l → SendAnswers e line n p r' d' l' → (r ≡ r') × (d ≡ d') × (l ≡ l')
 
+-- ---- supplies
+
+-- a supply, of whatever it is, has one answer when it is told to hand one over, one when it is told to hand it over
+-- into a place, and one count; each leaves one supply, and the second one thing in the place
+pub record OneHandOver (A : Type 0) : Type 0 where
+  pub handed : (supply : List A) → (x : Option A) × (rest : List A) × HandsOver supply x rest
+  pub only_handed :
+      (supply rest rest' : List A) (x x' : Option A) → HandsOver supply x rest
+      → HandsOver supply x' rest' → (x ≡ x') × (rest ≡ rest')
+  pub into_place :
+      (supply : List A) (place : A)
+      → (b : Bool) × (rest : List A) × (after : A) × HandedOver supply place b rest after
+  pub only_into_place :
+      (supply rest rest' : List A) (place after after' : A) (b b' : Bool)
+      → HandedOver supply place b rest after → HandedOver supply place b' rest' after'
+      → (b ≡ b') × (rest ≡ rest') × (after ≡ after')
+  pub count : (supply : List A) → (n : ℕ) × (rest : List A) × Counts supply n rest
+  pub only_count :
+      (supply rest rest' : List A) (n n' : ℕ) → Counts supply n rest → Counts supply n' rest'
+      → (n ≡ n') × (rest ≡ rest')
+
 -- ---- takes
+
+-- what a take takes, or that it takes none, is handed over into the place that its caller lends; and an arrival that
+-- was handed over into a place, and that the receiver reads, is taken
+pub record EachTakeFillsThePlace : Type 0 where
+  pub filled :
+      (e e' : Receiver) (supply rest : List Arrival) (x : Option Taken) (place : Arrival) → Takes e supply x e' rest
+      → HandedOver supply place (is_some x) rest (place_after x place)
+  pub taken :
+      (e e' : Receiver) (supply rest : List Arrival) (x : Taken) (place after : Arrival)
+      → HandedOver supply place true rest after → x.arrival ≡ after → Receives e x e'
+      → Takes e supply (Some x) e' rest × (place_after (Some x) place ≡ after)
 
 -- a take of the receiver from what is to come to its link is a take call, and leaves the link with what is then to come
 abbrev pub EachTakeIsACall : Type 0
@@ -146,6 +187,15 @@ pub record OnePage : Type 0 where
       (supply : List Arrival) (rows rows' : List Row) → PageRows supply rows → PageRows supply rows' → rows ≡ rows'
   pub text : (bytes : List ℕ) → (text : List ℕ) × PageText bytes text
   pub only_text : (bytes text text' : List ℕ) → PageText bytes text → PageText bytes text' → text ≡ text'
+
+-- a print of a text into a buffer has one answer, and leaves one buffer, which is as long as it was
+pub record OnePrint : Type 0 where
+  pub some : (text before : List ℕ) → (after : List ℕ) × (r : Result ℕ Refusal) × Prints text before after r
+  pub only :
+      (text before after after' : List ℕ) (r r' : Result ℕ Refusal) → Prints text before after r
+      → Prints text before after' r' → (after ≡ after') × (r ≡ r')
+  pub length :
+      (text before after : List ℕ) (r : Result ℕ Refusal) → Prints text before after r → length after ≡ length before
 
 -- ---- what was sent is read
 

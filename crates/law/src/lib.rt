@@ -2,7 +2,7 @@
 //! one answer, sessions of commands, and worked examples. Each function here carries a theorem.
 #![tactic(auto)]
 
-ghost use Rattle.law.specs.Answers.{ChainOfTakesIsARun, ChainsOfTakesJoin, EachTakeIsACall, OneAnswerToEachCall, OneAnswerToEachRunOfTakes, OneArrivalOrFault, OnePage, OneReadingOfEachArrival, OneSendAnswer, SentIsReadAsSent};
+ghost use Rattle.law.specs.Answers.{ChainOfTakesIsARun, ChainsOfTakesJoin, EachTakeFillsThePlace, EachTakeIsACall, OneAnswerToEachCall, OneAnswerToEachRunOfTakes, OneArrivalOrFault, OneHandOver, OnePacketOrFault, OnePage, OnePrint, OneReadingOfEachArrival, OneSendAnswer, SentIsReadAsSent};
 ghost use Rattle.law.specs.Changes.{ChangesOfWords};
 ghost use Rattle.law.specs.Example.{ExampleRun};
 ghost use Rattle.law.specs.Keeping.{EveryRunKeeps, MadeLinksAreNew, OwnLineDelivers};
@@ -10,6 +10,7 @@ ghost use Rattle.law.specs.Law.{EveryRun, EveryRunCarries, EveryRunThroughout, E
 ghost use Rattle.law.specs.Listing.{WorkedListing};
 ghost use Rattle.law.specs.Marks.{WorkedExamples};
 ghost use Rattle.law.specs.Sessions.{OneOutcomeOfASession, OneSessionOfCommands, EverySendCarries, SessionsGrow};
+ghost use Rattle.rules.specs.Arrivals.{Arrival};
 
 /// Carries a theorem: every run of calls from a new link keeps the law: of the guarded bits, of the rounding, and of the
 /// agreement of the two ends.
@@ -69,6 +70,12 @@ pub fn one_arrival()
     ensures { OneArrivalOrFault }
 {}
 
+/// Carries a theorem: a place, a category and bytes make exactly one packet, or have exactly one fault.
+#[tactic(auto, using(crate::proofs::OneAnswer::one_packet))]
+pub fn one_packet()
+    ensures { OnePacketOrFault }
+{}
+
 /// Carries a theorem: every arrival is read in exactly one way, whatever its bytes, and something is read exactly if its letter says
 /// so.
 #[tactic(auto, using(crate::proofs::OneReading::one_reading))]
@@ -120,6 +127,21 @@ pub fn every_send_carries()
     ensures { EverySendCarries }
 {}
 
+/// Carries a theorem: a supply, of whatever it is, hands over in exactly one way, hands over into a place that is lent in exactly
+/// one way, and has exactly one count.
+#[tactic(auto, using(crate::proofs::HandOvers::one_hand_over))]
+pub fn one_hand_over<T>()
+    ensures of_anything { OneHandOver T }
+    ensures of_arrivals { OneHandOver Arrival }
+{}
+
+/// Carries a theorem: what a take takes, or that it takes none, is handed over into the place that its caller lends; and an
+/// arrival that was handed over into a place, and that the receiver reads, is taken.
+#[tactic(auto, using(crate::proofs::HandOvers::each_take_fills_the_place))]
+pub fn each_take_fills_the_place()
+    ensures { EachTakeFillsThePlace }
+{}
+
 /// Carries a theorem: a take of the receiver from what is to come to its link is a take call on the link.
 #[tactic(auto, using(crate::proofs::OneRun::each_take_is_a_call))]
 pub fn each_take_is_a_call()
@@ -150,6 +172,13 @@ pub fn one_run_of_takes()
 #[tactic(auto, using(crate::proofs::OneRun::one_page))]
 pub fn one_page()
     ensures { OnePage }
+{}
+
+/// Carries a theorem: a print of a text into a buffer has exactly one answer, and leaves exactly one buffer, which is as long as it
+/// was.
+#[tactic(auto, using(crate::proofs::OnePrint::one_print))]
+pub fn one_print()
+    ensures { OnePrint }
 {}
 
 /// Carries a theorem: as many guarded bits differ between two packets as between their words, with PCB[0] and without it.

@@ -1,0 +1,33 @@
+-- A print has one answer, and keeps the length of its buffer.
+use Rattle.std.proofs.Common.{◌≡◌, ℕ, ◌++◌, List, length, drop, Ok, Err, Result, refl, sym, ap, ◌∙◌, inl, inr, arith}
+use Rattle.std.proofs.lemmas.Bool.{cases_lt}
+use Rattle.std.proofs.lemmas.List.{length-append, length-drop}
+use Rattle.service.specs.declared.refusals.Refusal.{Refusal}
+use Rattle.service.specs.declared.refusals.Refusal.TheVariants.{ShortBuffer}
+use Rattle.rules.specs.Pages.{Prints}
+use Rattle.law.specs.Answers.{OnePrint}
+
+print_some : (text before : List ℕ) → (after : List ℕ) × (r : Result ℕ Refusal) × Prints text before after r
+print_some text before = elim (cases_lt (length before) (length text)) [
+  | inl short ↦ (before, Err ShortBuffer, (short, refl))
+  | inr fits ↦ (text ++ drop (length text) before, Ok (length text), (fits, refl, refl))
+]
+
+print_once : (text before after after' : List ℕ) (r r' : Result ℕ Refusal) → Prints text before after r → Prints text before after' r' → (after ≡ after') × (r ≡ r')
+print_once text before after after' (Ok n) (Ok m) (fits, long, is) (fits', long', is') =
+    let same = long ∙ sym long' in (is ∙ ap (λ k. text ++ drop k before) same ∙ sym is', ap Ok same)
+print_once text before after after' (Ok n) (Err ShortBuffer) (fits, long, is) (short, kept) = absurd (omega arith)
+print_once text before after after' (Ok n) (Err r) p q = absurd q
+print_once text before after after' (Err ShortBuffer) (Ok m) (short, kept) (fits, long, is) = absurd (omega arith)
+print_once text before after after' (Err ShortBuffer) (Err ShortBuffer) (short, kept) (short', kept') = (kept ∙ sym kept', refl)
+print_once text before after after' (Err ShortBuffer) (Err r) p q = absurd q
+print_once text before after after' (Err r) r' p q = absurd p
+
+as_long : (text before after : List ℕ) (r : Result ℕ Refusal) → Prints text before after r → length after ≡ length before
+as_long text before after (Ok n) (fits, long, is) =
+    omega (arith, ap length is, length-append text (drop n before), length-drop n before)
+as_long text before after (Err ShortBuffer) (short, kept) = ap length kept
+as_long text before after (Err r) p = absurd p
+
+pub one_print : OnePrint
+one_print = record { some = print_some; only = print_once; length = as_long }
