@@ -1,8 +1,8 @@
 -- A supply hands over in one way, and a take hands over into the place that was lent.
-use Rattle.std.proofs.Common.{◌≡◌, ℕ, Bool, true, false, is_some, List, [], ◌∷◌, length, get_or, drop, Some, None, Option, refl, sym, ap, subst, ◌∙◌}
+use Rattle.std.proofs.Common.{◌≡◌, ℕ, ◌+◌, Bool, true, false, is_some, List, [], ◌∷◌, length, get_or, drop, Some, None, Option, refl, sym, ap, subst, ◌∙◌, arith}
 use Rattle.rules.specs.Arrivals.{Arrival, Counts, HandedOver, HandsOver}
 use Rattle.rules.specs.Ends.{Receiver, Receives, Taken, Takes, place_after}
-use Rattle.law.specs.Answers.{EachTakeFillsThePlace, OneHandOver}
+use Rattle.law.specs.Answers.{EachTakeFillsThePlace, HandOversAreCounted, OneHandOver}
 
 -- ---- a supply
 
@@ -49,6 +49,16 @@ one_hand_over A = record {
   count = λ supply. (length supply, supply, (refl, refl));
   only_count = count_once;
 }
+
+count_each : {A : Type 0} (supply same rest left : List A) (x : A) (n m : ℕ) → Counts supply n same → HandsOver same (Some x) rest
+    → Counts rest m left → n ≡ m + 1
+count_each supply same rest left x n m (many, kept) first (fewer, kept') = omega (arith, many, ap length kept, ap length first, fewer)
+
+count_none : {A : Type 0} (supply same rest : List A) (n : ℕ) → Counts supply n same → HandsOver same None rest → n ≡ 0
+count_none supply same rest n (many, kept) (none, empty) = omega (arith, many, ap length kept, ap length none)
+
+pub hand_overs_are_counted : (A : Type 0) → HandOversAreCounted A
+hand_overs_are_counted A = record { each = count_each; none = count_none }
 
 -- ---- a take
 

@@ -1,11 +1,11 @@
--- A print has one answer, and keeps the length of its buffer.
-use Rattle.std.proofs.Common.{◌≡◌, ℕ, ◌++◌, List, length, drop, Ok, Err, Result, refl, sym, ap, ◌∙◌, inl, inr, arith}
+-- A print has one answer, stands at its buffer's start, and keeps the buffer's length.
+use Rattle.std.proofs.Common.{◌≡◌, ℕ, ◌++◌, List, length, drop, take, Ok, Err, Result, refl, sym, ap, ◌∙◌, inl, inr, arith}
 use Rattle.std.proofs.lemmas.Bool.{cases_lt}
-use Rattle.std.proofs.lemmas.List.{length-append, length-drop}
+use Rattle.std.proofs.lemmas.List.{drop_at, length-append, length-drop, take_at}
 use Rattle.service.specs.declared.refusals.Refusal.{Refusal}
 use Rattle.service.specs.declared.refusals.Refusal.TheVariants.{ShortBuffer}
 use Rattle.rules.specs.Pages.{Prints}
-use Rattle.law.specs.Answers.{OnePrint}
+use Rattle.law.specs.Answers.{OnePrint, PrintsStandAtTheStart}
 
 print_some : (text before : List ℕ) → (after : List ℕ) × (r : Result ℕ Refusal) × Prints text before after r
 print_some text before = elim (cases_lt (length before) (length text)) [
@@ -31,3 +31,18 @@ as_long text before after (Err r) p = absurd p
 
 pub one_print : OnePrint
 one_print = record { some = print_some; only = print_once; length = as_long }
+
+-- ---- where it stands
+
+at_the_start : (text before after : List ℕ) (n : ℕ) → Prints text before after (Ok n) → take n after ≡ text
+at_the_start text before after n (fits, long, is) = ap (take n) is ∙ take_at text (drop n before) n (sym long)
+
+behind_kept : (text before after : List ℕ) (n : ℕ) → Prints text before after (Ok n) → drop n after ≡ drop n before
+behind_kept text before after n (fits, long, is) = ap (drop n) is ∙ drop_at text (drop n before) n (sym long)
+
+all_kept : (text before after : List ℕ) (r : Refusal) → Prints text before after (Err r) → after ≡ before
+all_kept text before after ShortBuffer (short, kept) = kept
+all_kept text before after r p = absurd p
+
+pub prints_stand_at_the_start : PrintsStandAtTheStart
+prints_stand_at_the_start = record { text = at_the_start; kept = behind_kept; refused = all_kept }

@@ -1,5 +1,6 @@
 -- Every call has an answer on every input, and only one.
-use Rattle.std.specs.Prelude.{◌≡◌, ℕ, Bool, true, is_some, List, ◌++◌, length, map, reverse, Ok, Some, Option, Result}
+use Rattle.std.specs.Prelude.{◌≡◌, ℕ, ◌+◌, Bool, true, is_some, List, ◌++◌, drop, length, map, reverse, take as first}
+use Rattle.std.specs.Prelude.{Ok, Err, Some, None, Option, Result}
 use Rattle.service.specs.declared.categories.Category.{Category}
 use Rattle.service.specs.declared.rates.Rate.{Rate}
 use Rattle.service.specs.declared.readings.Letter.{Letter}
@@ -122,6 +123,14 @@ pub record OneHandOver (A : Type 0) : Type 0 where
       (supply rest rest' : List A) (n n' : ℕ) → Counts supply n rest → Counts supply n' rest'
       → (n ≡ n') × (rest ≡ rest')
 
+-- a count is of the things that are still to be handed over: one more than are left behind each, and 0 where there is
+-- none
+pub record HandOversAreCounted (A : Type 0) : Type 0 where
+  pub each :
+      (supply same rest left : List A) (x : A) (n m : ℕ) → Counts supply n same → HandsOver same (Some x) rest
+      → Counts rest m left → n ≡ m + 1
+  pub none : (supply same rest : List A) (n : ℕ) → Counts supply n same → HandsOver same None rest → n ≡ 0
+
 -- ---- takes
 
 -- what a take takes, or that it takes none, is handed over into the place that its caller lends; and an arrival that
@@ -196,6 +205,12 @@ pub record OnePrint : Type 0 where
       → Prints text before after' r' → (after ≡ after') × (r ≡ r')
   pub length :
       (text before after : List ℕ) (r : Result ℕ Refusal) → Prints text before after r → length after ≡ length before
+
+-- after a print the text stands at the buffer's start, and what was behind it is kept; after one that is refused all is
+pub record PrintsStandAtTheStart : Type 0 where
+  pub text : (text before after : List ℕ) (n : ℕ) → Prints text before after (Ok n) → first n after ≡ text
+  pub kept : (text before after : List ℕ) (n : ℕ) → Prints text before after (Ok n) → drop n after ≡ drop n before
+  pub refused : (text before after : List ℕ) (r : Refusal) → Prints text before after (Err r) → after ≡ before
 
 -- ---- what was sent is read
 

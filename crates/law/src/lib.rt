@@ -2,7 +2,7 @@
 //! one answer, sessions of commands, and worked examples. Each function here carries a theorem.
 #![tactic(auto)]
 
-ghost use Rattle.law.specs.Answers.{ChainOfTakesIsARun, ChainsOfTakesJoin, EachTakeFillsThePlace, EachTakeIsACall, OneAnswerToEachCall, OneAnswerToEachRunOfTakes, OneArrivalOrFault, OneHandOver, OnePacketOrFault, OnePage, OnePrint, OneReadingOfEachArrival, OneSendAnswer, SentIsReadAsSent};
+ghost use Rattle.law.specs.Answers.{ChainOfTakesIsARun, ChainsOfTakesJoin, EachTakeFillsThePlace, EachTakeIsACall, HandOversAreCounted, OneAnswerToEachCall, OneAnswerToEachRunOfTakes, OneArrivalOrFault, OneHandOver, OnePacketOrFault, OnePage, OnePrint, OneReadingOfEachArrival, OneSendAnswer, PrintsStandAtTheStart, SentIsReadAsSent};
 ghost use Rattle.law.specs.Changes.{ChangesOfWords};
 ghost use Rattle.law.specs.Example.{ExampleRun};
 ghost use Rattle.law.specs.Keeping.{EveryRunKeeps, MadeLinksAreNew, OwnLineDelivers};
@@ -135,6 +135,14 @@ pub fn one_hand_over<T>()
     ensures of_arrivals { OneHandOver Arrival }
 {}
 
+/// Carries a theorem: a supply, of whatever it is, counts one more than it does once one was handed over, and 0 where there is none
+/// to hand over.
+#[tactic(auto, using(crate::proofs::HandOvers::hand_overs_are_counted))]
+pub fn hand_overs_are_counted<T>()
+    ensures of_anything { HandOversAreCounted T }
+    ensures of_arrivals { HandOversAreCounted Arrival }
+{}
+
 /// Carries a theorem: what a take takes, or that it takes none, is handed over into the place that its caller lends; and an
 /// arrival that was handed over into a place, and that the receiver reads, is taken.
 #[tactic(auto, using(crate::proofs::HandOvers::each_take_fills_the_place))]
@@ -179,6 +187,13 @@ pub fn one_page()
 #[tactic(auto, using(crate::proofs::OnePrint::one_print))]
 pub fn one_print()
     ensures { OnePrint }
+{}
+
+/// Carries a theorem: after a print its text stands at the buffer's start, and what was behind it is kept; after one that is
+/// refused the buffer is as it was.
+#[tactic(auto, using(crate::proofs::OnePrint::prints_stand_at_the_start))]
+pub fn prints_stand_at_the_start()
+    ensures { PrintsStandAtTheStart }
 {}
 
 /// Carries a theorem: as many guarded bits differ between two packets as between their words, with PCB[0] and without it.
