@@ -10,7 +10,10 @@ use Rattle.law.specs.Runs.{Call, Send, Blank, Disturb, Take, RestartSender, Rest
 use Rattle.law.proofs.Numbers.{push_length}
 use Rattle.law.proofs.Sent.{sent_lawful}
 use Rattle.law.proofs.Steps.{blank_refused}
-use Rattle.law.specs.Keeping.{WithinPlaces}
+use Rattle.law.specs.Keeping.{EmptyLinesAreWithinPlaces, WithinPlaces}
+
+pub empty_lines : EmptyLinesAreWithinPlaces
+empty_lines n = record { places = omega arith; fits = omega arith }
 
 lawful_push : (list : List Arrival) (a : Arrival) → are_lawful list ≡ true → is_lawful a ≡ true → are_lawful (list ++ (a ∷ [])) ≡ true
 unfolding are_lawful

@@ -30,7 +30,7 @@ pub record OneArrivalOrFault : Type 0 where
       (place c : ℕ) (bytes : List ℕ) (r r' : Result Arrival Fault) → MakesArrival (λ a. a) place c bytes r
       → MakesArrival (λ a. a) place c bytes r' → r ≡ r'
 
--- and so it is of a packet, whose category is known
+-- a category, which is known, and bytes make one arrival, or have one fault
 pub record OnePacketOrFault : Type 0 where
   pub some :
       (place : ℕ) (category : Category) (bytes : List ℕ) → are_bytes bytes ≡ true
@@ -93,7 +93,7 @@ pub record OneAnswerToEachCall : Type 0 where
   pub only :
       (s t t' : Link) (c c' : Call) → command_of c ≡ command_of c' → Step s c t → Step s c' t' → (c ≡ c') × (t ≡ t')
 
--- and so it is of what a send answers its caller, with the sender and the line after it
+-- a send has one thing that it answers its caller, with one sender and one line after it
 pub record OneSendAnswer : Type 0 where
   pub some :
       (e : Sender) (line : Line) (n : ℕ) (p : Parameters) → AreComplete p

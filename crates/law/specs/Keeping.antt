@@ -1,10 +1,11 @@
 -- What every run from a new link keeps, and what a link's own line delivers.
-use Rattle.std.specs.Prelude.{◌≡◌, ◌+◌, ◌<◌, ◌≤◌, true, List, [], ◌∷◌, ◌++◌, length, map, Ok, Err, Some, None, Option}
+use Rattle.std.specs.Prelude.{◌≡◌, ℕ, ◌+◌, ◌<◌, ◌≤◌, true, List, [], ◌∷◌, ◌++◌, length, map, Ok, Err, Some, None}
+use Rattle.std.specs.Prelude.{Option}
 use Rattle.service.specs.Queues.{max_places}
 use Rattle.lsp.specs.States.{InRange}
 use Rattle.rules.specs.Arrivals.{Arrival, are_lawful, blank_arrival}
 use Rattle.rules.specs.Sending.{Sent, arrival_sent}
-use Rattle.rules.specs.Links.{Line, Link, Source, new_link, this_line, to_come, to_come_from}
+use Rattle.rules.specs.Links.{Line, Link, Source, empty_line, new_link, this_line, to_come, to_come_from}
 use Rattle.law.specs.Runs.{Call, CallMade, Send, Blank, Disturb, Take, RestartSender, RestartReceiver, New, Run}
 use Rattle.law.specs.Runs.{arrivals_taken, frames_sent, now}
 
@@ -33,6 +34,10 @@ abbrev pub MadeLinksAreNew : Type 0
 MadeLinksAreNew =
     (line : Line) (source : Source) → are_lawful line.waiting ≡ true → are_lawful (to_come_from source line) ≡ true
     → New (new_link line source)
+
+-- a line on which nothing waits, in a memory of any length, is within its places
+abbrev pub EmptyLinesAreWithinPlaces : Type 0
+EmptyLinesAreWithinPlaces = (n : ℕ) → WithinPlaces (empty_line n)
 
 -- the arrival that a frame sent puts on the line
 abbrev pub arrival_of_frame : Option Sent → Arrival

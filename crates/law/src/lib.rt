@@ -5,7 +5,7 @@
 ghost use Rattle.law.specs.Answers.{ChainOfTakesIsARun, ChainsOfTakesJoin, EachTakeFillsThePlace, EachTakeIsACall, HandOversAreCounted, OneAnswerToEachCall, OneAnswerToEachRunOfTakes, OneArrivalOrFault, OneHandOver, OnePacketOrFault, OnePage, OnePrint, OneReadingOfEachArrival, OneSendAnswer, PrintsStandAtTheStart, SentIsReadAsSent};
 ghost use Rattle.law.specs.Changes.{ChangesOfWords};
 ghost use Rattle.law.specs.Example.{ExampleRun};
-ghost use Rattle.law.specs.Keeping.{EveryRunKeeps, MadeLinksAreNew, OwnLineDelivers};
+ghost use Rattle.law.specs.Keeping.{EmptyLinesAreWithinPlaces, EveryRunKeeps, MadeLinksAreNew, OwnLineDelivers};
 ghost use Rattle.law.specs.Law.{EveryRun, EveryRunCarries, EveryRunThroughout, EveryStepCarries, RunsJoin};
 ghost use Rattle.law.specs.Listing.{WorkedListing};
 ghost use Rattle.law.specs.Marks.{WorkedExamples};
@@ -51,10 +51,12 @@ pub fn every_run_keeps()
     ensures { EveryRunKeeps }
 {}
 
-/// Carries a theorem: a link that is made of a line and a source with lawful arrivals is new.
-#[tactic(auto, using(crate::proofs::Every::made_links_are_new))]
+/// Carries theorems: a link that is made of a line and a source with lawful arrivals is new; and a line on which nothing waits, in a
+/// memory of any length, is within its places.
+#[tactic(auto, using(crate::proofs::Every::made_links_are_new, crate::proofs::Keeping::empty_lines))]
 pub fn made_links_are_new()
-    ensures { MadeLinksAreNew }
+    ensures links { MadeLinksAreNew }
+    ensures empty_lines { EmptyLinesAreWithinPlaces }
 {}
 
 /// Carries a theorem: on a link that takes from its own line, on which nothing waited at first, as many frames were sent as
@@ -70,7 +72,7 @@ pub fn one_arrival()
     ensures { OneArrivalOrFault }
 {}
 
-/// Carries a theorem: a place, a category and bytes make exactly one packet, or have exactly one fault.
+/// Carries a theorem: a place, a category and bytes make exactly one arrival, or have exactly one fault.
 #[tactic(auto, using(crate::proofs::OneAnswer::one_packet))]
 pub fn one_packet()
     ensures { OnePacketOrFault }

@@ -51,7 +51,8 @@ Compares IsCase IsRight Names lines c =
     MatchOption c.malformed (Tallied IsCase IsRight Names lines c.tally (string_bytes c.differences))
     (λ _. EndsAtMalformed IsCase IsRight Names lines c.tally (string_bytes c.differences))
 
--- one line more is compared: it has the form of its file, and it is right, or it is not and a text names what differs in it
+-- one line more is compared: it has the form of its file, and it is right, or it is not and a text names what differs
+-- in it
 pub record AddsRight (old new : Comparison) : Type 0 where
   pub compared : new.tally.compared ≡ old.tally.compared + 1
   pub differ : new.tally.differ ≡ old.tally.differ
