@@ -4,3 +4,4 @@ pub mod Distance
 pub mod Changes
 pub mod Sent
 pub mod Readings
+pub mod Columns

@@ -7,7 +7,7 @@ use Rattle.lsp.specs.Histories.{Event as PlainEvent, Lawful, after}
 use Rattle.lsp.specs.Events.{event_of, history}
 use Rattle.lsp.proofs.Runs.{after-++}
 
-history_more : (xs : List Event) (i : ℕ) (a : Event) → i < length xs → a ≡ get_or xs i a → history (take (i + 1) xs) ≡ event_of a ∷ history (take i xs)
+pub history_more : (xs : List Event) (i : ℕ) (a : Event) → i < length xs → a ≡ get_or xs i a → history (take (i + 1) xs) ≡ event_of a ∷ history (take i xs)
 history_more xs i a h e =
     ap reverse (map_more event_of xs i a h)
     ∙ reverse-append (map event_of (take i xs)) (event_of (get_or xs i a) ∷ [])
@@ -23,7 +23,7 @@ after_more xs i a m n r h e p q =
     ∙ ap (after m) (sym (history_more xs i a h e))
 
 -- the codes of a packet are within their rate, by its type
-lawful_event : (a : Event) (past : List PlainEvent) → Lawful past → Lawful (event_of a ∷ past)
+pub lawful_event : (a : Event) (past : List PlainEvent) → Lawful past → Lawful (event_of a ∷ past)
 lawful_event (Packet codes) past h = (codes.within, h)
 lawful_event Erasure past h = h
 lawful_event Blank past h = h

@@ -65,8 +65,8 @@ impl LspCodes {
 
     // The value of the code of one LSP.
     #[tactic(auto, using(crate::proofs::Sizes::value_most))]
-    pub(crate) fn value(self, lsp: Lsp) -> i64
-        ensures value { result ≡ value_of self.rate lsp.index (slice_index self.codes lsp.index) }
+    pub(crate) fn value(&self, lsp: Lsp) -> i64
+        ensures value { result ≡ value_of self.now.rate lsp.index (slice_index self.now.codes lsp.index) }
         ensures size { unsigned_abs result ≤ largest_value }
     {
         Quantizer {

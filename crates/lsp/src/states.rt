@@ -101,17 +101,28 @@ impl Memories {
         Lsp::each(|lsp| self.decayed_memory(lsp).grains)
     }
 
-    // v(c) + D(m) of the code and the memory of one LSP.
-    fn updated_memory(self, lsp: Lsp, codes: LspCodes) -> i64
-        ensures { result ≡ value_of codes.rate lsp.index (slice_index codes.codes lsp.index)
-            +ℤ decay (slice_index_or self.grains lsp.index (pos 0)) }
+    // The memory of one LSP, of memories that are lent. An update takes it: there is so much to do for each LSP that the ten
+    // are not unrolled, and each would copy all memories.
+    #[tactic(auto, using(crate::proofs::Decays::bound_most))]
+    fn lent_memory(&self, lsp: Lsp) -> Memory
+        ensures { result.grains ≡ slice_index_or self.now.grains lsp.index (pos 0) }
     {
-        codes.value(lsp) + self.decayed_memory(lsp).grains
+        Memory {
+            grains: self.grains[lsp.index],
+        }
+    }
+
+    // v(c) + D(m) of the code and the memory of one LSP.
+    fn updated_memory(&self, lsp: Lsp, codes: &LspCodes) -> i64
+        ensures { result ≡ value_of codes.now.rate lsp.index (slice_index codes.now.codes lsp.index)
+            +ℤ decay (slice_index_or self.now.grains lsp.index (pos 0)) }
+    {
+        codes.value(lsp) + self.lent_memory(lsp).decay().grains
     }
 
     fn updated(self, codes: LspCodes) -> [i64; 10]
         ensures { result ≡ updated codes.rate codes.codes self.grains }
     {
-        Lsp::each(|lsp| self.updated_memory(lsp, codes))
+        Lsp::each(|lsp| self.updated_memory(lsp, &codes))
     }
 }

@@ -72,6 +72,8 @@ impl<'a> Reel<'a> {
     }
 
     /// Record `k`, from 0; none if there are not so many.
+    // Inlined: a call takes more than twice as long, most of it to hand the record back.
+    #[inline(always)]
     #[tactic(auto, using(crate::proofs::First::record_passes))]
     pub fn record(&self, k: usize) -> Option<Record<'a>>
         ensures { RecordAt (bytes_of self.now) k result }

@@ -22,7 +22,7 @@ use crate::packs::PackFile;
 use crate::reels::ReelFile;
 use crate::tallies::{Tally, verdict};
 use crate::unpacks::UnpackFile;
-use anyhow::{Context, bail};
+use anyhow::{Context, anyhow, bail};
 use program::{Asked, exit_code, unwritable};
 use std::collections::BTreeMap;
 use std::process::ExitCode;
@@ -113,7 +113,7 @@ impl Vectors<'_> {
     fn read_cases(self, name: &str) -> anyhow::Result<String> {
         let Vectors { rt, folder } = self;
         let path = format!(in rt.alloc(); "{folder}/{name}.txt")?;
-        fs::read_to_string(rt, path.as_str()).context(format_args!("cannot read {path}"))
+        fs::read_to_string(rt, path.as_str()).map_err(|e| anyhow!("cannot read {path}: {e}"))
     }
 
     /// The reels that cases name, by their names.
@@ -126,7 +126,9 @@ impl Vectors<'_> {
                 continue;
             };
             let path = format!(in heap; "{folder}/{name}.reel")?;
-            let bytes = fs::read(rt, path.as_str()).context(format_args!("cannot read {path}"))?;
+            let bytes = fs::read(rt, path.as_str()).map_err(|e| anyhow!(
+                "cannot read {path}: {e}"
+            ))?;
             reels
                 .insert(String::from_str(heap, name)?, bytes)
                 .map_err(std::alloc::AllocError::from)?;

@@ -1,6 +1,5 @@
--- By hand, since the check does not find that 1 << p is 2 ^ p below the length of the code alone.
+-- By hand, since the check does not find what the first power that passes says of those before it.
 use Rattle.std.proofs.Common.{◌≡◌, ◌^◌, ◌<◌, ◌≢◌, arith, rules, tests}
-use lib.Pow.{pow-lt}
 use Rattle.std.proofs.lemmas.Iterator.{first_from_Range}
 use Rattle.cyclic.specs.Polynomials.{rem}
 use Rattle.cyclic.specs.declared.places.TheConstants.{CODE_LENGTH}
@@ -11,6 +10,6 @@ returns c =
     let s = c.args.syndrome.bits in
     let found =
     first_from_Range _ _ _ _ (λ p. p < CODE_LENGTH → rem (2 ^ p) ≡ s) (λ p. p < CODE_LENGTH → rem (2 ^ p) ≢ s) c.find.ensures.ran
-    (λ x q k l. let h = pow-lt l in grind (arith, tests))
-    (λ x q k. (search rules, λ l. let h = pow-lt l in grind (arith, tests))) in
+    (λ x q k l. grind (arith, tests))
+    (λ x q k. (search rules, λ l. grind (arith, tests))) in
     search rules

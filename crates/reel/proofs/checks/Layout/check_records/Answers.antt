@@ -7,7 +7,7 @@ use Rattle.reel.proofs.checks.Layout.check_records.Goals as goal
 
 pub returns-in_err-record : goal.returns-in_err-record
 returns-in_err-record c =
-    let layout = c.args.self in
+    let layout = c.args.self.now in
     let p = err_from_is_err_and c.from_residual.result c.from_residual.ensures.1 in
     let found = fault_at layout.bytes.now c.loop-k.k _ layout.passed c.loop-k.invariant (omega arith) c.in_err-record.ensures in
     rw (p.1, p.2) (record { answer = found; lawful = unlawful_from_some _ _ found })
@@ -17,6 +17,6 @@ loop-k-preserved c = below_more _ _ c.loop-k.invariant c.in_ok-record.ensures.0
 
 pub returns : goal.returns
 returns c =
-    let layout = c.args.self in
+    let layout = c.args.self.now in
     let none = no_fault layout.bytes.now layout.passed (λ k lt. c.loop-k.invariant k (omega arith)) in
     record { answer = none; lawful = lawful_from_none _ none }
