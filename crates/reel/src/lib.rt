@@ -72,7 +72,7 @@ impl<'a> Reel<'a> {
     }
 
     /// Record `k`, from 0; none if there are not so many.
-    // Inlined: a call takes more than twice as long, most of it to hand the record back.
+    // Inlined: as a call it takes more than twice as long.
     #[inline(always)]
     #[tactic(auto, using(crate::proofs::First::record_passes))]
     pub fn record(&self, k: usize) -> Option<Record<'a>>
